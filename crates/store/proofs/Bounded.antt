@@ -2,6 +2,7 @@
 -- returns of the tree is what the world has to say. Assumes nothing.
 use Rattle.store.proofs.Base.{◌≡◌, ℕ, ◌≤◌, Bool, true, not, ◌&&◌, ◌||◌, eqb, List, ap, ◌∙◌, arith, Run, size, Positions, held_runs, Node, Indexed, runs_from, World, Set, held, held_in, first_of, last_of}
 use Rattle.store.proofs.Base.{below_of, tree_b, world_b, Tells}
+use Rattle.store.proofs.Steps.{inside-linked}
 use Rattle.store.proofs.Reached.{tree-seen}
 use Rattle.store.proofs.Hanging.{Hangs, hangs-index}
 use Rattle.store.proofs.Decided.{below-sums, tree-yes, hangs-walked}
@@ -31,3 +32,5 @@ module _ (w : List ℕ) (h : World) where
         → world_b w h ≡ (eqb h.ones v.ones && (eqb h.runs v.runs && (eqb h.first f && (eqb h.last l && (not (eqb h.root 0) || eqb h.offset 0)))))
     unfolding world_b
     world-is v ev z of f tf l tl = rw (hangs-walked T, ← ev, ← told first_of z of f tf, ← told last_of z of l tl)
+
+pub ruleset rooted = (walked-low, root-walked, world-is, indexed, inside-linked)

@@ -133,3 +133,5 @@ module _ (ls : List ℕ) (c n : ℕ) where
           let f = first ls c n k left l d h is in
           let g = f.decides in
           record { rest = f.rest; all = f.all; decides = grind (arith, nat_tests) }
+
+pub ruleset fitting = (fit_none, fit-many, fit-start, fit-crossed, fit-over, fit-step, fit-end)

@@ -107,3 +107,5 @@ nodes-long w w' e = length-drop 128 w' ∙ ap (λ n. n - 128) e ∙ sym (length-
 pub nodes-length : (w : List ℕ) → length (nodes w) ≡ length w - 128
 unfolding nodes
 nodes-length w = length-drop 128 w
+
+pub ruleset lending = (lent-nodes)

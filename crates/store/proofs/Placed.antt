@@ -145,3 +145,5 @@ module _ (w : List ℕ) (left runs k : ℕ) (C : Checking w left runs k) where
             told = told_more;
             unclaimed = omega (arith, h.0, h.1, (told w k p ep).1, sum_more k (claim_at w), C.unclaimed);
           })
+
+pub ruleset placing = (world-told, world-counted, world-seen, many-are)

@@ -107,3 +107,5 @@ module _ {w : List ℕ} {c k i l b : ℕ} (f : Following w c k i l b) where
   all-counted all = let z : falls ((c - 1) / 64 - i) w l ≡ 0 = rw (let e : (c - 1) / 64 - i ≡ 0 = omega arith in e) refl in omega (arith, f.counted)
 
 pub ruleset along_rules = (along-stays, along-more, along-end)
+
+pub ruleset following = (following-none, following-more, chain-last, all-counted)

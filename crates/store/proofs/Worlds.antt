@@ -205,3 +205,5 @@ opened-told w k o small =
     }
 
 pub ruleset leaving = (leaves_none, leaves-more, leaves-same, leaves_all, claim-left)
+
+pub ruleset claiming = (planted-indexed, planted-counted, claim-told)

@@ -85,6 +85,7 @@ fn make_records(words: &mut [u64], limits: &[u64], n: u64)
 }
 
 // Says whether limits are fit to make a pool of capacity c: 1 to 16 worlds, no floor above its ceiling, and floors of at most c together.
+#[tactic(auto, using(crate::proofs::Limiting::fitting))]
 pub fn limits_fit(limits: &[u64], c: u64) -> bool
     ensures { result ≡ not (bad_limits c (limits_of limits.now)) }
 {

@@ -178,6 +178,7 @@ fn write_world(words: &mut [u64], h: World)
 }
 
 // What world k claims of the pool: the larger of its runs and its floor.
+#[tactic(auto, using(crate::proofs::Worlds::claiming))]
 fn claim(words: &[u64], k: u64) -> u64
     requires room { Room words.now 16 }
     requires room_2 { Room words.now (k + 1) }
@@ -221,6 +222,7 @@ pub fn open(words: &[u64], k: u64) -> World
 }
 
 // The set of world k of a sound pool.
+#[tactic(auto, using(crate::proofs::Parts::lending))]
 pub fn read_set<'a>(words: &'a [u64], k: u64) -> Set<'a>
     requires { Openable words.now k }
     ensures { held result ≡ held_by words.now k }

@@ -288,6 +288,7 @@ fn along(words: &[u64], link: u64, n: u64) -> u64
 
 // How worn the chain from `head` is, if exactly `count` links lead over free nodes to 0. It goes in strides of 64 links, looks at the last link
 // of each, and counts those that lead back: to look at every link takes a quarter more instructions.
+#[tactic(auto, using(std::proofs::lemmas::Bool::Decides::nat_tests, crate::proofs::Strides::following), unfolding(crate::specs::Decision::chain_of, crate::specs::Decision::chain_b, crate::specs::Decision::falls))]
 fn chain_fits(words: &[u64], head: u64, count: u64) -> Option<u64>
     ensures { result ≡ chain_of count words.now head }
 {
@@ -310,6 +311,7 @@ fn chain_fits(words: &[u64], head: u64, count: u64) -> Option<u64>
 }
 
 // Whether a tree hangs at the root of a world, and the world has its sums and its bounds; an empty one has offset 0.
+#[tactic(auto, using(std::proofs::lemmas::Bool::Decides::nat_tests, crate::proofs::Bounded::rooted), unfolding(crate::specs::Decision::world_b))]
 fn world_fits(words: &[u64], h: World) -> bool
     requires { Room words.now 0 }
     ensures { result ≡ world_b words.now h }
@@ -358,6 +360,7 @@ struct Place {
 
 // The place of world k, if its tree and its record fit and it keeps its limits. Its logical runs are counted once, for the ceiling and for
 // its claim.
+#[tactic(auto, using(std::proofs::lemmas::Bool::Decides::nat_tests, crate::proofs::Placed::placing), unfolding(crate::specs::Decision::place_of, crate::specs::Decision::place_b))]
 fn place_at(words: &[u64], k: u64) -> Option<Place>
     requires in_bounds { 8 * 17 ≤ length words.now }
     requires k_lt_most_worlds { k < most_worlds }
@@ -413,6 +416,7 @@ fn unopened_fit(words: &[u64], n: u64) -> bool
 }
 
 // How worn the free chain is, if words of a pool's length are a sound pool.
+#[tactic(auto, using(std::proofs::lemmas::Bool::Decides::nat_tests, crate::proofs::Parts::lending), unfolding(crate::specs::Decision::header_b, crate::specs::Decision::checked, crate::specs::Decision::sound_b, crate::specs::Decision::runs_of, crate::specs::Decision::rest_of, crate::specs::Layout::worlds_of))]
 pub fn check(words: &[u64]) -> Option<u64>
     requires { 1 ≤ capacity words.now }
     ensures { result ≡ checked words.now }

