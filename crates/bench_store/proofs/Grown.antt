@@ -12,16 +12,16 @@ use Rattle.model.specs.Positions.{Positions, empty, set_range, stretches}
 use Rattle.model.specs.Refusals.{bad_limits}
 use Rattle.model.specs.Pools.{limits_from, limits_of, empty_worlds, alone}
 use Rattle.run_index.specs.Cells.{cell_at}
-use Rattle.store.specs.declared.World.{World}
-use Rattle.store.specs.Layout.{capacity, nodes, allowance, held_in, held_by}
-use Rattle.store.specs.Soundness.{Sound, Stands, Limited, Editable, share_of}
-use Rattle.store.specs.Free.{Makeable, Pooled, Emptied}
-use Rattle.store.specs.Settle.{Settled, Became, Openable, Opened, Closing}
-use Rattle.store.proofs.Truths.{never}
-use Rattle.store.proofs.Nodes.{sized-length}
-use Rattle.store.proofs.Parts.{lent, back, lent-nodes, back-same, back-nodes, back-front, back_long, cells-before}
-use Rattle.store.specs.Decision.{sound_b}
-use Rattle.store.proofs.Whole.{sound_b-yes}
+use Rattle.pool.specs.declared.World.{World}
+use Rattle.pool.specs.Layout.{capacity, nodes, allowance, held_in, held_by}
+use Rattle.pool.specs.Soundness.{Sound, Stands, Limited, Editable, footprint_of}
+use Rattle.pool.specs.Free.{Makeable, Pooled, Emptied}
+use Rattle.pool.specs.Settle.{Settled, Became, Openable, Opened, Closing}
+use Rattle.pool.proofs.Truths.{never}
+use Rattle.pool.proofs.Nodes.{sized-length}
+use Rattle.pool.proofs.Parts.{lent, back, lent-nodes, back-same, back-nodes, back-front, back_long, cells-before}
+use Rattle.pool.specs.Decision.{sound_b}
+use Rattle.pool.proofs.Whole.{sound_b-yes}
 use Rattle.changes.specs.Edits.{Edited}
 use Rattle.bench_store.specs.Growing.{is_pool, Renewed, Tried}
 
@@ -70,8 +70,8 @@ nodes-there {w} so = omega (arith, (sized-length w so.sized).0)
 
 module _ {w : List ℕ} {h : World} (op : Opened w 0 h) where
   -- in the part that is lent it is within its allowance
-  limited : Limited (lent w) (share_of w 0) h (allowance w 0)
-  limited = subst (λ v. Limited v (share_of w 0) h (allowance w 0)) (sym (lent-nodes w)) op.limited
+  limited : Limited (lent w) (footprint_of w 0) h (allowance w 0)
+  limited = subst (λ v. Limited v (footprint_of w 0) h (allowance w 0)) (sym (lent-nodes w)) op.limited
 
   -- it holds there what the pool's world does
   pub lent-held : held_in (lent w) h ≡ held_by w 0
@@ -84,12 +84,12 @@ module _ {w : List ℕ} {h : World} (op : Opened w 0 h) where
 
   -- and stands
   pub open-stands : Stands (lent w) h
-  open-stands = (share_of w 0, limited.standing)
+  open-stands = (footprint_of w 0, limited.standing)
 
   module _ {limit : ℕ} (el : limit ≡ allowance w 0) where
     -- it may be edited
     pub editable : Editable (lent w) h limit
-    editable = (share_of w 0, subst (Limited (lent w) (share_of w 0) h) (sym el) limited)
+    editable = (footprint_of w 0, subst (Limited (lent w) (footprint_of w 0) h) (sym el) limited)
 
     module _ (so : Sound w) (ys : List ℕ) (Q : Positions) (e : Option Edit) (ed : Edited (lent w) ys h limit Q e) where
       -- refused, all is as it was
@@ -107,8 +107,8 @@ module _ {w : List ℕ} {h : World} (op : Opened w 0 h) where
         few : stretches Q ≤ allowance w 0
         few = subst (λ m. stretches Q ≤ m) el told.0
 
-        became : Became (lent w) ys (share_of w 0) k Q
-        became = told.1 (share_of w 0) (allowance w 0) limited few
+        became : Became (lent w) ys (footprint_of w 0) k Q
+        became = told.1 (footprint_of w 0) (allowance w 0) limited few
 
         same_number : k.tag ≡ 0
         same_number = became.shows.standing.kept.tagged
@@ -119,15 +119,15 @@ module _ {w : List ℕ} {h : World} (op : Opened w 0 h) where
             ap (λ v. cell_at v 0) (back-nodes w ys (nodes-there so)) ∙ became.still.cells 0 (λ p. absurd (omega arith))
             ∙ ap (λ v. cell_at v 0) (lent-nodes w)
 
-        became-nodes : Became (nodes w) (nodes (back w ys)) (share_of w 0) k Q
-        became-nodes = subst₂ (λ a b. Became a b (share_of w 0) k Q) (lent-nodes w) (sym (back-nodes w ys (nodes-there so))) became
+        became-nodes : Became (nodes w) (nodes (back w ys)) (footprint_of w 0) k Q
+        became-nodes = subst₂ (λ a b. Became a b (footprint_of w 0) k Q) (lent-nodes w) (sym (back-nodes w ys (nodes-there so))) became
 
         pub changed-closing : Closing w (back w ys) k Q
         changed-closing = record {
           openable = subst (Openable w) (sym same_number) (opened so);
           before = cells-before w (back w ys) (back-front w ys (nodes-there so)) same-before;
           long = back_long w ys (nodes-there so) became.still.long;
-          became = subst (λ j. Became (nodes w) (nodes (back w ys)) (share_of w j) k Q) (sym same_number) became-nodes;
+          became = subst (λ j. Became (nodes w) (nodes (back w ys)) (footprint_of w j) k Q) (sym same_number) became-nodes;
           few = subst (λ j. stretches Q ≤ allowance w j) (sym same_number) few;
         }
 

@@ -10,10 +10,10 @@ use Rattle.model.specs.Range.{many}
 use Rattle.model.specs.Pools
 use Rattle.model.specs.Pools.{PlainWorld, with_positions, holding_at, allowance_of, world_of, other_claims}
 use Rattle.model.proofs.Runs.{stretches-cong}
-use Rattle.store.specs.Layout.{capacity_of, capacity, allowance, opened_at, floor_at, ceiling_at, held_by, plain_at, worlds_from, worlds_of}
-use Rattle.store.specs.Soundness.{Sound}
-use Rattle.store.specs.Settle.{Settled}
-use Rattle.store.proofs.WorldLists.{worlds-but}
+use Rattle.pool.specs.Layout.{capacity_of, capacity, allowance, opened_at, floor_at, ceiling_at, held_by, plain_at, worlds_from, worlds_of}
+use Rattle.pool.specs.Soundness.{Sound}
+use Rattle.pool.specs.Settle.{Settled}
+use Rattle.pool.proofs.WorldLists.{worlds-but}
 use Rattle.bench_store.specs.Growing.{is_pool, next_number, more_after, Growth, next_first, next_many, with_next}
 use Rattle.bench_store.specs.Growing.{grown_by, grown, growth_of, Tried, has_gap, found_in}
 

@@ -5,10 +5,10 @@ use Rattle.std.specs.Prelude.{Bool, true, false, cond, not, ◌&&◌, ◌==◌, 
 use Rattle.model.specs.Numbers.{size}
 use Rattle.model.specs.Positions.{Positions, one_if, empty, gap, set_range, stretches}
 use Rattle.model.specs.Pools.{alone}
-use Rattle.store.specs.Layout.{capacity, allowance, held_by}
-use Rattle.store.specs.Free.{Pooled}
-use Rattle.store.specs.Settle.{Settled}
-use Rattle.store.specs.Decision.{sound_b}
+use Rattle.pool.specs.Layout.{capacity, allowance, held_by}
+use Rattle.pool.specs.Free.{Pooled}
+use Rattle.pool.specs.Settle.{Settled}
+use Rattle.pool.specs.Decision.{sound_b}
 
 -- whether words are a sound pool
 abbrev pub is_pool : List ℕ → Bool

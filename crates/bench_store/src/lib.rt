@@ -6,13 +6,13 @@
 ghost use Rattle.std.specs.Prelude.{◌≡◌, ◌+◌, ◌≤◌, ◌==◌, true, not};
 ghost use Rattle.model.specs.Positions.{set_range};
 ghost use Rattle.model.specs.Range.{many};
-ghost use Rattle.store.specs.Layout.{capacity, held_by};
-ghost use Rattle.store.specs.Soundness.{Sound};
+ghost use Rattle.pool.specs.Layout.{capacity, held_by};
+ghost use Rattle.pool.specs.Soundness.{Sound};
 ghost use Rattle.bench_store.specs.Growing.{is_pool, Renewed, next_number, more_after, Tried, GrowsIf, has_gap, found_in};
 
 use model::Logical;
 use model::between::Interval;
-use store::Store;
+use pool::Store;
 
 // Makes the words a pool of one world, which is empty and may have all that the pool has. False where no pool has their length.
 #[unsafe(no_mangle)]
@@ -26,7 +26,7 @@ pub extern "C" fn vizturel_bench_new(words: &mut [u64]) -> bool
         return false;
     }
     let limits = [0u64, s.capacity];
-    store::free::make(words, &limits, 1);
+    pool::free::make(words, &limits, 1);
     true
 }
 
@@ -35,7 +35,7 @@ pub extern "C" fn vizturel_bench_new(words: &mut [u64]) -> bool
 pub extern "C" fn vizturel_bench_is_sound(words: &[u64]) -> bool
     ensures { result ≡ is_pool words.now }
 {
-    Store::of_length(words.len()).capacity != 0 && store::soundness::is_sound(words)
+    Store::of_length(words.len()).capacity != 0 && pool::soundness::is_sound(words)
 }
 
 // The next number of a row that looks random (xorshift; 0 is followed by 0).
@@ -64,12 +64,12 @@ fn put(words: &mut [u64], range: Interval) -> bool
     requires { Sound words.old }
     ensures { Tried words.old words.new (set_range range.first.0 (many range) true (held_by words.old 0)) result }
 {
-    let h = store::open(words, 0);
-    let limit = store::allowance(words, 0);
+    let h = pool::open(words, 0);
+    let limit = pool::allowance(words, 0);
     let Some(made) = changes::edit::set(&mut words[128..], h, limit, range, true) else {
         return false;
     };
-    store::close(words, made.world);
+    pool::close(words, made.world);
     true
 }
 
@@ -98,7 +98,7 @@ fn look_for(words: &[u64], range: Interval, n: u64) -> bool
     requires some { 1 ≤ n }
     ensures { result ≡ has_gap words.now range.first.0 (many range) n }
 {
-    let h = store::open(words, 0);
+    let h = pool::open(words, 0);
     streams::gaps::lowest_gap(&words[128..], h, range, n).is_some()
 }
 

@@ -7,8 +7,8 @@
 
 use interval_bit_set::{bytes, change, join, listing, make, report, write};
 use model::{Bound, Count, Edition, Listing, Operation, Refusal, Run, Tally};
+use pool::Store;
 use std::io;
-use store::Store;
 
 // ---- what an answer prints: a space before each part of it
 // A trait of its own and no Display: most of what is shown are types of other crates (Result, Option, numbers, the model's), for which none can be

@@ -9,9 +9,9 @@ use Rattle.model.specs.RunList.{Canon, first_from, EndBelow, StartFrom, clear}
 use Rattle.model.proofs.Search.{canon-split}
 use Rattle.run_index.specs.Tree.{Tree}
 use Rattle.run_index.specs.Search.{Indexed, runs_from}
-use Rattle.store.specs.declared.Links.{Links}
-use Rattle.store.specs.Soundness.{Share}
-use Rattle.store.specs.Free.{Becomes, Removable, RemovesRun, Changeable, Changes}
+use Rattle.pool.specs.declared.Links.{Links}
+use Rattle.pool.specs.Soundness.{Footprint}
+use Rattle.pool.specs.Free.{Becomes, Removable, RemovesRun, Changeable, Changes}
 use Rattle.changes.specs.Change.{Cut, Clearable}
 use Rattle.changes.proofs.Counting.{runs_of}
 use Rattle.changes.proofs.Lists.{first-after, first_some, first-none, ends-before, canon-shrink}
@@ -58,7 +58,7 @@ unfolding clear
 clear_none s e = refl
 
 -- ---- what `clear_from` has done so far to the runs us from s on
-pub record Cleared (w w1 : List ℕ) (sh : Share) (y : Links) (s e : ℕ) (ls us : List Run) : Type 0 where
+pub record Cleared (w w1 : List ℕ) (sh : Footprint) (y : Links) (s e : ℕ) (ls us : List Run) : Type 0 where
   pub left : List Run
   pub becomes : Becomes w w1 sh y (ls ++ left)
   pub below : EndBelow s ls
@@ -66,10 +66,10 @@ pub record Cleared (w w1 : List ℕ) (sh : Share) (y : Links) (s e : ℕ) (ls us
   pub same : clear s e left ≡ clear s e us
 
 -- what is left is all that is to be left
-cleared-done : {w w1 : List ℕ} {sh : Share} {y : Links} (ls : List Run) {vs ws : List Run} → Becomes w w1 sh y (ls ++ vs) → vs ≡ ws → Becomes w w1 sh y (ls ++ ws)
+cleared-done : {w w1 : List ℕ} {sh : Footprint} {y : Links} (ls : List Run) {vs ws : List Run} → Becomes w w1 sh y (ls ++ vs) → vs ≡ ws → Becomes w w1 sh y (ls ++ ws)
 cleared-done {w} {w1} {sh} {y} ls b f = subst (λ (vs : List Run). Becomes w w1 sh y (ls ++ vs)) f b
 
-module _ {w w1 : List ℕ} {sh : Share} {y : Links} {s e : ℕ} {ls us : List Run} (d : Cleared w w1 sh y s e ls us)
+module _ {w w1 : List ℕ} {sh : Footprint} {y : Links} {s e : ℕ} {ls us : List Run} (d : Cleared w w1 sh y s e ls us)
     (n : Option Run) (f : n ≡ first_from s (runs_from w1 y.root)) where
   -- the search finds the first of the runs left
   first-is : n ≡ first_run d.left
@@ -151,7 +151,7 @@ module _ {w w1 : List ℕ} {sh : Share} {y : Links} {s e : ℕ} {ls us : List Ru
 
 -- ---- the invariant of `clear_from`
 pub record ClearingFrom (w w1 : List ℕ) (x y : Links) (s e : ℕ) : Type 0 where
-  pub so_far : {sh : Share} {ls us : List Run} {t : Tree} {ns : List ℕ} → Cut w sh x s ls us t ns → Cleared w w1 sh y s e ls us
+  pub so_far : {sh : Footprint} {ls us : List Run} {t : Tree} {ns : List ℕ} → Cut w sh x s ls us t ns → Cleared w w1 sh y s e ls us
 
 module _ {w w1 : List ℕ} {x y : Links} {s e : ℕ} (i : ClearingFrom w w1 x y s e) (p : Clearable w x s) where
   -- what has been done to the runs that the caller has

@@ -10,10 +10,10 @@ use Rattle.model.proofs.Runs.{stretches-is}
 use Rattle.model.specs.Neighbours.{goes_on, held_below, held_above}
 use Rattle.run_index.specs.Tree.{inorder}
 use Rattle.run_index.proofs.Totals.{runs-length}
-use Rattle.store.specs.declared.World.{World}
-use Rattle.store.specs.Layout.{held_in}
-use Rattle.store.specs.Soundness.{Share, Standing, Limited}
-use Rattle.store.proofs.Opening.{physical_in, standing-held}
+use Rattle.pool.specs.declared.World.{World}
+use Rattle.pool.specs.Layout.{held_in}
+use Rattle.pool.specs.Soundness.{Footprint, Standing, Limited}
+use Rattle.pool.proofs.Opening.{physical_in, standing-held}
 use Rattle.reports.proofs.Reading.{ranges-most}
 use Rattle.changes.specs.declared.edit.Border.{Border}
 use Rattle.changes.specs.Edits.{Surrounds}
@@ -33,7 +33,7 @@ pub one-most : (r : ℕ) (b : Bool) → r ≡ one_if b → r ≤ 1
 one-most r b e = omega (arith, one-bound b)
 
 -- ---- of a world
-module _ {w : List ℕ} {s : Share} {h : World} (st : Standing w s h) where
+module _ {w : List ℕ} {s : Footprint} {h : World} (st : Standing w s h) where
   -- they are the physical runs
   physical-runs : h.runs ≡ stretches (physical_in st)
   physical-runs = st.runs-are ∙ runs-length st.tree ∙ sym (stretches-is (physical_in st) (inorder st.tree) st.kept.ordered (λ x l. refl))
@@ -48,7 +48,7 @@ module _ {w : List ℕ} {s : Share} {h : World} (st : Standing w s h) where
   far-fits {limit} a b v o i l far =
       sym (le-leb (stretches (set_range a (suc b - a) v (held_in w h))) limit (omega (arith, logical-most o, set-one-more (held_in w h) a (suc b - a) v (omega arith) (omega arith))))
 
-module _ {w : List ℕ} {s : Share} {h : World} {limit : ℕ} (lim : Limited w s h limit) where
+module _ {w : List ℕ} {s : Footprint} {h : World} {limit : ℕ} (lim : Limited w s h limit) where
   -- the limit is at most 65,566
   pub limit-few : limit ≤ 65566
   limit-few = omega (arith, lim.enough, lim.standing.kept.part, lim.standing.kept.few)
@@ -82,7 +82,7 @@ beside-few {P} {a} {b} s = (
 
 module _ {P : Positions} {a b : ℕ} {r : Border} (s : Surrounds P a b r) (some : a ≤ b) (fits : b < size) where
   -- the runs outside are few
-  pub outside-few : {w : List ℕ} {sh : Share} {h : World} {limit : ℕ} → Limited w sh h limit → P ≡ held_in w h → r.outside ≤ 65568
+  pub outside-few : {w : List ℕ} {sh : Footprint} {h : World} {limit : ℕ} → Limited w sh h limit → P ≡ held_in w h → r.outside ≤ 65568
   outside-few lim e =
       omega (
         arith,

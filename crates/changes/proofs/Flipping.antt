@@ -9,12 +9,12 @@ use Rattle.model.proofs.Counting.{one-bound}
 use Rattle.model.proofs.Runs.{stretches-cong}
 use Rattle.model.specs.Neighbours.{goes_on}
 use Rattle.model.proofs.After.{set-cong, flip-below, flip-above, stretches-parts}
-use Rattle.store.specs.declared.World.{World}
-use Rattle.store.specs.Layout.{held_in}
-use Rattle.store.specs.Soundness.{Share, Still, Standing, Limited}
-use Rattle.store.specs.Settle.{Became}
-use Rattle.store.proofs.Nodes.{still-then, still-same}
-use Rattle.store.proofs.Settling.{became-limited}
+use Rattle.pool.specs.declared.World.{World}
+use Rattle.pool.specs.Layout.{held_in}
+use Rattle.pool.specs.Soundness.{Footprint, SameFrame, Standing, Limited}
+use Rattle.pool.specs.Settle.{Became}
+use Rattle.pool.proofs.Nodes.{still-then, still-same}
+use Rattle.pool.proofs.Settling.{became-limited}
 use Rattle.reports.specs.Reports.{Measured, StretchEnd}
 use Rattle.reports.proofs.Ranks.{ranges-alternate}
 use Rattle.changes.specs.declared.edit.Border.{Border}
@@ -25,7 +25,7 @@ use Rattle.changes.proofs.Fitting.{leb-like, logical-most, logical-few}
 
 -- ---- the runs that a flip of a range leaves
 -- far from the limit each flip fits
-pub flip-fits-far : {w : List ℕ} {s : Share} {h : World} {limit : ℕ} (a b : ℕ) → Standing w s h → h.offset < size → a ≤ b → b < size → h.runs + 2 ≤ limit
+pub flip-fits-far : {w : List ℕ} {s : Footprint} {h : World} {limit : ℕ} (a b : ℕ) → Standing w s h → h.offset < size → a ≤ b → b < size → h.runs + 2 ≤ limit
     → true ≡ leb (stretches (flip_range a (suc b - a) (held_in w h))) limit
 flip-fits-far {w} {s} {h} {limit} a b st l i k f =
     sym (le-leb (stretches (flip_range a (suc b - a) (held_in w h))) limit
@@ -47,7 +47,7 @@ flip-fits-counted {P} {a} {b} {r} {free} s some fits m k =
     )) (omega arith)
 
 -- a range of a world has few gaps
-pub gaps-few : {w : List ℕ} {s : Share} {h : World} {limit a b : ℕ} {free : Tally} → Limited w s h limit → a ≤ b → b < size
+pub gaps-few : {w : List ℕ} {s : Footprint} {h : World} {limit a b : ℕ} {free : Tally} → Limited w s h limit → a ≤ b → b < size
     → Measured (held_in w h) false a (suc b - a) free → free.runs ≤ 65569
 gaps-few {w} {h = h} {a = a} {b = b} lim some fits m =
     omega (
@@ -62,9 +62,9 @@ gaps-few {w} {h = h} {a = a} {b = b} lim some fits m =
 
 -- ---- one stretch after another
 -- the world h₀ became h, in which the positions from a up to x are flipped
-pub record Flipping (w₀ w : List ℕ) (s : Share) (h₀ h : World) (limit a last x : ℕ) : Type 0 where
+pub record Flipping (w₀ w : List ℕ) (s : Footprint) (h₀ h : World) (limit a last x : ℕ) : Type 0 where
   pub limited : Limited w s h limit
-  pub still : Still w₀ w s
+  pub still : SameFrame w₀ w s
   pub from : a ≤ x
   pub upto : x ≤ last
   pub within : last < size
@@ -75,7 +75,7 @@ pub record Flipping (w₀ w : List ℕ) (s : Share) (h₀ h : World) (limit a la
 -- whatever share it has, and whatever limit
 abbrev pub Flips : List ℕ → List ℕ → World → World → ℕ → ℕ → ℕ → Type 0
 Flips w₀ w h₀ h a last x =
-    (s : Share) (limit : ℕ) → Limited w₀ s h₀ limit → stretches (flip_range a (suc last - a) (held_in w₀ h₀)) ≤ limit
+    (s : Footprint) (limit : ℕ) → Limited w₀ s h₀ limit → stretches (flip_range a (suc last - a) (held_in w₀ h₀)) ≤ limit
     → Flipping w₀ w s h₀ h limit a last x
 
 -- none are flipped
@@ -95,7 +95,7 @@ flips-none {w} {h} {a} {last} l k s limit lim few = record {
     nothing y (inl i) = flip-below a (a - a) (held_in w h) y i
     nothing y (inr i) = flip-above a (a - a) (held_in w h) y (omega arith)
 
-module _ {w₀ w : List ℕ} {s : Share} {h₀ h : World} {limit a last x y : ℕ} {v : Bool} (f : Flipping w₀ w s h₀ h limit a last x)
+module _ {w₀ w : List ℕ} {s : Footprint} {h₀ h : World} {limit a last x y : ℕ} {v : Bool} (f : Flipping w₀ w s h₀ h limit a last x)
     (en : StretchEnd (held_in w h) v x last y) where
   -- from x on all is as it was
   as_before : (z : ℕ) → x ≤ z → z < size → held_in w₀ h₀ z ≡ held_in w h z

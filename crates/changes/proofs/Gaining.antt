@@ -14,13 +14,13 @@ use Rattle.model.proofs.Search.{widths-append}
 use Rattle.run_index.specs.Tree.{Tree, leaf, node, inorder, At}
 use Rattle.run_index.proofs.Trees.{rep_pos, rep-ordered}
 use Rattle.run_index.proofs.Totals.{ones-widths}
-use Rattle.store.specs.declared.World.{World}
-use Rattle.store.specs.Layout.{turned, held_in}
-use Rattle.store.specs.Soundness.{Share, Standing, Editable}
-use Rattle.store.specs.Settle.{Became}
-use Rattle.store.proofs.Turn.{turned_zero}
-use Rattle.store.proofs.Turn.{count-parted}
-use Rattle.store.proofs.Opening.{physical_in, standing-held}
+use Rattle.pool.specs.declared.World.{World}
+use Rattle.pool.specs.Layout.{turned, held_in}
+use Rattle.pool.specs.Soundness.{Footprint, Standing, Editable}
+use Rattle.pool.specs.Settle.{Became}
+use Rattle.pool.proofs.Turn.{turned_zero}
+use Rattle.pool.proofs.Turn.{count-parted}
+use Rattle.pool.proofs.Opening.{physical_in, standing-held}
 use Rattle.changes.specs.declared.edit.Edit.{Edit}
 use Rattle.changes.specs.Edits.{TellsHeld, Gains, SetGains, Makes, Edited, Grows, GrowsBy}
 
@@ -47,7 +47,7 @@ rootless-widths (node n a b l r) h =
     (λ z. absurd (omega (arith, h.linked)), λ z. absurd (omega (arith, widths-append (inorder l) (run a b ∷ inorder r))))
 
 -- the root and the sum of a world tell how many positions it holds
-world-tells : {w : List ℕ} {s : Share} {h : World} → Standing w s h → h.offset < size → TellsHeld h.root h.ones (count (held_in w h) true 0 size)
+world-tells : {w : List ℕ} {s : Footprint} {h : World} → Standing w s h → h.offset < size → TellsHeld h.root h.ones (count (held_in w h) true 0 size)
 world-tells {w} {s} {h} st small =
     let held : count (held_in w h) true 0 size ≡ widths (inorder st.tree) =
     ap (λ (P : Positions). count P true 0 size) (standing-held st) ∙ count-turned h.offset (physical_in st) true small
@@ -118,7 +118,7 @@ unfolding set_range
 set-of a n v P x = (cond-adds (among a n x) v (P x), cond-frees (among a n x) v (P x))
 
 -- ---- a world and what a change makes of it
-module _ {w w' : List ℕ} {s : Share} {h k : World} {Q : Positions} (st : Standing w s h) (be : Became w w' s k Q) (oh : h.offset < size) (ok : k.offset < size)
+module _ {w w' : List ℕ} {s : Footprint} {h k : World} {Q : Positions} (st : Standing w s h) (be : Became w w' s k Q) (oh : h.offset < size) (ok : k.offset < size)
     (c : Count) where
   -- it holds as many as the change leaves
   after : count (held_in w' k) true 0 size ≡ count Q true 0 size

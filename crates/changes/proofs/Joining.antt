@@ -12,9 +12,9 @@ use Rattle.model.proofs.Edit.{insert-put, insert-join}
 use Rattle.run_index.specs.Tree.{Tree}
 use Rattle.run_index.specs.Order.{Before}
 use Rattle.run_index.specs.Search.{Indexed, runs_from}
-use Rattle.store.specs.declared.Links.{Links}
-use Rattle.store.specs.Soundness.{Share}
-use Rattle.store.specs.Free.{Becomes, Removable, RemovesRun}
+use Rattle.pool.specs.declared.Links.{Links}
+use Rattle.pool.specs.Soundness.{Footprint}
+use Rattle.pool.specs.Free.{Becomes, Removable, RemovesRun}
 use Rattle.changes.specs.Change.{Parted, Absorbable, Absorbed}
 use Rattle.changes.proofs.Counting.{runs_of}
 use Rattle.changes.proofs.Steps.{becomes-none, becomes-canon, becomes-runs, becomes-indexed, becomes-after, becomes-removable, becomes-removed}
@@ -70,12 +70,12 @@ pub leave-out : (start b reached : ℕ) (r : Run) (us : List Run) → start ≤ 
 leave-out start b reached r us o c h a le = insert-put a reached r us (omega (arith, c.0, c.1)) h
 
 -- ---- what `absorb` has done so far to the runs us after start .. b
-pub record SoFar (w w1 : List ℕ) (sh : Share) (y : Links) (start e : ℕ) (ls us : List Run) (b : ℕ) : Type 0 where
+pub record SoFar (w w1 : List ℕ) (sh : Footprint) (y : Links) (start e : ℕ) (ls us : List Run) (b : ℕ) : Type 0 where
   pub left : List Run
   pub becomes : Becomes w w1 sh y (ls ++ (run start b ∷ left))
   pub same : (a : ℕ) → a ≤ start → insert a e left ≡ insert a e us
 
-module _ {w w1 : List ℕ} {sh : Share} {y : Links} {start e : ℕ} {ls us : List Run} {b : ℕ} (s : SoFar w w1 sh y start e ls us b) where
+module _ {w w1 : List ℕ} {sh : Footprint} {y : Links} {start e : ℕ} {ls us : List Run} {b : ℕ} (s : SoFar w w1 sh y start e ls us b) where
   -- the run that grows has its ends in order
   ordered : start ≤ b
   ordered = grow-ordered ls s.left start b (becomes-canon s.becomes)
@@ -164,7 +164,7 @@ module _ {w w1 : List ℕ} {sh : Share} {y : Links} {start e : ℕ} {ls us : Lis
 
 -- ---- the invariant of `absorb`
 pub record Absorbing (w w1 : List ℕ) (x y : Links) (start b e : ℕ) : Type 0 where
-  pub so_far : {sh : Share} {ls us : List Run} {t : Tree} {ns : List ℕ} → Parted w sh x ls (run start b ∷ us) t ns → SoFar w w1 sh y start e ls us b
+  pub so_far : {sh : Footprint} {ls us : List Run} {t : Tree} {ns : List ℕ} → Parted w sh x ls (run start b ∷ us) t ns → SoFar w w1 sh y start e ls us b
 
 -- it holds at first
 pub absorbing-none : {w : List ℕ} {x : Links} {start b e : ℕ} → Absorbing w w x x start b e

@@ -9,7 +9,7 @@ use Rattle.model.specs.Positions.{Positions, one_if, runs_in, run_count, mem}
 use Rattle.model.proofs.Counting.{among-yes}
 use Rattle.model.proofs.Runs.{runs_in-mem}
 use Rattle.model.specs.Neighbours.{goes_on, held_below, held_above}
-use Rattle.store.proofs.Ends.{clash, empty-mem}
+use Rattle.pool.proofs.Ends.{clash, empty-mem}
 
 -- ---- truth values as numbers
 -- both hold at most as often as the second

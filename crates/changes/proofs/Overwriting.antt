@@ -16,13 +16,13 @@ use Rattle.run_index.proofs.Laying.{filled_none, filled-step, next-room, left_ov
 use Rattle.run_lists.specs.declared.Runs.{Runs}
 use Rattle.run_lists.specs.Listed.{left}
 use Rattle.run_lists.proofs.Ordered.{words-more}
-use Rattle.store.specs.declared.World.{World}
-use Rattle.store.specs.declared.Links.{Links}
-use Rattle.store.specs.Layout.{links_of}
-use Rattle.store.specs.Free.{GivesBack}
-use Rattle.store.specs.Soundness.{Share}
-use Rattle.store.specs.Settle.{Lays, Linkable, LinksUp}
-use Rattle.store.proofs.Replacing.{replace-fillable, replace-linkable, replaced}
+use Rattle.pool.specs.declared.World.{World}
+use Rattle.pool.specs.declared.Links.{Links}
+use Rattle.pool.specs.Layout.{links_of}
+use Rattle.pool.specs.Free.{GivesBack}
+use Rattle.pool.specs.Soundness.{Footprint}
+use Rattle.pool.specs.Settle.{Lays, Linkable, LinksUp}
+use Rattle.pool.proofs.Replacing.{replace-fillable, replace-linkable, replaced}
 use Rattle.streams.specs.declared.sweep.Joint.{Joint}
 use Rattle.streams.specs.Reading.{Draws}
 use Rattle.streams.specs.Sweeping.{Joins}
@@ -105,7 +105,7 @@ list-overwrites runs i rs e o v = record {
   receives = v;
 }
 
-module _ {w : List ℕ} {s : Share} {h : World} {J : Positions} where
+module _ {w : List ℕ} {s : Footprint} {h : World} {J : Positions} where
   -- the runs of two feeds joined
   pub joint-overwrites : {j : Joint} → Joins j 0 J → Roomy w s h J → Overwritable (Draws Joins) w h j (held_runs J)
   unfolding stretches

@@ -13,12 +13,12 @@ use Rattle.model.proofs.Search.{canon-split, canon-starts, starts-weaken}
 use Rattle.model.proofs.Edit.{set_to, insert-skip, insert-put, insert-join}
 use Rattle.run_index.specs.Tree.{Tree, inorder, tree_from}
 use Rattle.run_index.specs.Order.{Before}
-use Rattle.store.specs.declared.Links.{Links}
-use Rattle.store.specs.Layout.{highest}
-use Rattle.store.specs.Soundness.{Share}
-use Rattle.store.specs.Free.{Becomes, Addable, Adds, Changeable, Changes}
+use Rattle.pool.specs.declared.Links.{Links}
+use Rattle.pool.specs.Layout.{highest}
+use Rattle.pool.specs.Soundness.{Footprint}
+use Rattle.pool.specs.Free.{Becomes, Addable, Adds, Changeable, Changes}
 use Rattle.run_index.specs.Search.{runs_from}
-use Rattle.store.proofs.Reached.{kept-runs, kept-tree}
+use Rattle.pool.proofs.Reached.{kept-runs, kept-tree}
 use Rattle.changes.specs.declared.change.Reach.{Reach}
 use Rattle.changes.specs.Change.{MaySet, Settable, Holding, Sets, Touching, Apart, Parted, Absorbable, Absorbed, Absorbs}
 use Rattle.changes.proofs.Lists.{first-after, first_some, first-none, last_none, Around, last-around, ends-before, ends_more, ends_last, append-one, canon-below}
@@ -43,18 +43,18 @@ insert-past a b (r ∷ ls) us h =
 
 -- ---- the runs set
 -- the runs set are those of `insert`
-raised : {w w' : List ℕ} {sh : Share} {x y : Links} {s e : ℕ} {t : Tree} {ns : List ℕ} → s ≤ e → MaySet w sh x s e true t ns → Becomes w w' sh y (insert s e (inorder t))
+raised : {w w' : List ℕ} {sh : Footprint} {x y : Links} {s e : ℕ} {t : Tree} {ns : List ℕ} → s ≤ e → MaySet w sh x s e true t ns → Becomes w w' sh y (insert s e (inorder t))
     → Holding w w' sh y (set_range s (suc e - s) true (mem (inorder t)))
 unfolding set_to
 raised o m u = set-holding o m u
 
 -- they are canonical
-raised-canon : {w : List ℕ} {sh : Share} {x : Links} {s e : ℕ} {t : Tree} {ns : List ℕ} → s ≤ e → MaySet w sh x s e true t ns → Canon size 0 (insert s e (inorder t))
+raised-canon : {w : List ℕ} {sh : Footprint} {x : Links} {s e : ℕ} {t : Tree} {ns : List ℕ} → s ≤ e → MaySet w sh x s e true t ns → Canon size 0 (insert s e (inorder t))
 unfolding set_to
 raised-canon o m = set-canon o m
 
 -- the nodes are enough for them
-raised-few : {w : List ℕ} {sh : Share} {x : Links} {s e : ℕ} {t : Tree} {ns : List ℕ} → s ≤ e → MaySet w sh x s e true t ns → length (insert s e (inorder t)) ≤ sh.own
+raised-few : {w : List ℕ} {sh : Footprint} {x : Links} {s e : ℕ} {t : Tree} {ns : List ℕ} → s ≤ e → MaySet w sh x s e true t ns → length (insert s e (inorder t)) ≤ sh.own
 unfolding set_to
 raised-few o m = set-few o m
 
@@ -156,7 +156,7 @@ module _ (rs : List Run) (c : Canon size 0 rs) (s e : ℕ) (o : s ≤ e) where
 -- ---- it is r
 module _ {w : List ℕ} {x : Links} {s e : ℕ} (le : s ≤ e) {o : Option Run} {rs : List Run} (seen : rs ≡ runs_from w x.root)
     (f : MatchOption o (Apart rs s e) (Touching rs s e)) {r : Run} (is : o ≡ Some r) where
-  module _ {sh : Share} {t : Tree} {ns : List ℕ} (m : MaySet w sh x s e true t ns) where
+  module _ {sh : Footprint} {t : Tree} {ns : List ℕ} (m : MaySet w sh x s e true t ns) where
     -- the runs around r
     around : Touching (inorder t) s e r
     around = subst (λ (us : List Run). Touching us s e r) (seen ∙ kept-runs m.kept) (subst (λ (z : Option Run). MatchOption z (Apart rs s e) (Touching rs s e)) is f)
@@ -246,7 +246,7 @@ module _ {w : List ℕ} {x : Links} {s e : ℕ} (le : s ≤ e) {o : Option Run} 
 -- ---- there is none
 module _ {w : List ℕ} {x : Links} {s e : ℕ} (le : s ≤ e) {o : Option Run} {rs : List Run} (seen : rs ≡ runs_from w x.root)
     (f : MatchOption o (Apart rs s e) (Touching rs s e)) (is : o ≡ None) where
-  module _ {sh : Share} {t : Tree} {ns : List ℕ} (m : MaySet w sh x s e true t ns) where
+  module _ {sh : Footprint} {t : Tree} {ns : List ℕ} (m : MaySet w sh x s e true t ns) where
     -- what is set stands alone
     lone : Apart (inorder t) s e
     lone = subst (λ (us : List Run). Apart us s e) (seen ∙ kept-runs m.kept) (subst (λ (z : Option Run). MatchOption z (Apart rs s e) (Touching rs s e)) is f)

@@ -9,9 +9,9 @@ use Rattle.model.proofs.Counting.{count-all, counted_none, one-bound}
 use Rattle.model.proofs.Runs.{stretches-cong}
 use Rattle.model.specs.Neighbours.{goes_on, held_below, held_above}
 use Rattle.model.proofs.After.{goes_on-top, goes_on-zero, set-inside, set_below, set-above, set_runs}
-use Rattle.store.specs.Places.{physical_of}
-use Rattle.store.specs.Layout.{turned}
-use Rattle.store.proofs.Turn.{stretches-zero, stretches-turned}
+use Rattle.pool.specs.Places.{physical_of}
+use Rattle.pool.specs.Layout.{turned}
+use Rattle.pool.proofs.Turn.{stretches-zero, stretches-turned}
 use Rattle.changes.proofs.Neighbours.{both-second, with-without, goes_on-below, goes_on-above, goes_on-changed-above, goes_on-changed-below, ranges-some}
 
 -- ---- a range of n positions from a, up to b

@@ -8,26 +8,26 @@ use Rattle.model.specs.Positions.{Positions, set_range, stretches, mem}
 use Rattle.model.proofs.Runs.{stretches-cong}
 use Rattle.model.proofs.After.{set-cong}
 use Rattle.run_index.specs.Tree.{runs, inorder}
-use Rattle.store.specs.declared.World.{World}
-use Rattle.store.specs.declared.Links.{Links}
-use Rattle.store.specs.Layout.{links_of, turned, held_in}
-use Rattle.store.specs.Soundness.{Share, Kept, Standing, Limited}
-use Rattle.store.specs.Settle.{Became, Refreshes, Rooted, Resettable}
-use Rattle.store.specs.Free.{Sprouts}
-use Rattle.store.proofs.Turn.{Lies, first_below, parted-length}
-use Rattle.store.proofs.Nodes.{still-then}
-use Rattle.store.proofs.Opening.{physical_in, standing-held, standing-none, standing-some}
+use Rattle.pool.specs.declared.World.{World}
+use Rattle.pool.specs.declared.Links.{Links}
+use Rattle.pool.specs.Layout.{links_of, turned, held_in}
+use Rattle.pool.specs.Soundness.{Footprint, Represents, Standing, Limited}
+use Rattle.pool.specs.Settle.{Became, Refreshes, Rooted, Resettable}
+use Rattle.pool.specs.Free.{Sprouts}
+use Rattle.pool.proofs.Turn.{Lies, first_below, parted-length}
+use Rattle.pool.proofs.Nodes.{still-then}
+use Rattle.pool.proofs.Opening.{physical_in, standing-held, standing-none, standing-some}
 use Rattle.changes.specs.Change.{MaySet, Settable, Holding, Sets}
 use Rattle.changes.specs.Edits.{Reached, PutsIn, Grows}
 use Rattle.changes.proofs.TurnedSet.{turned-cong, turned-set-whole, turned-set-first, turned-set-parted}
 use Rattle.changes.proofs.SetRuns.{set-one-more, physical-one-more}
 
 -- what the links of a world lead to is kept
-pub links-kept : {w : List ℕ} {s : Share} {h : World} {x : Links} → x ≡ links_of h → (st : Standing w s h) → Kept w s x st.tree st.free
-links-kept {w} {s} e st = subst (λ (y : Links). Kept w s y st.tree st.free) (sym e) st.kept
+pub links-kept : {w : List ℕ} {s : Footprint} {h : World} {x : Links} → x ≡ links_of h → (st : Standing w s h) → Represents w s x st.tree st.free
+links-kept {w} {s} e st = subst (λ (y : Links). Represents w s y st.tree st.free) (sym e) st.kept
 
 -- the world that is brought into agreement holds them
-pub reached-became : {w w' : List ℕ} {s : Share} {y : Links} {o : ℕ} {P : Positions} {k : World} → Reached w w' s y o P → Refreshes w' y o k → Became w w' s k P
+pub reached-became : {w w' : List ℕ} {s : Footprint} {y : Links} {o : ℕ} {P : Positions} {k : World} → Reached w w' s y o P → Refreshes w' y o k → Became w w' s k P
 reached-became {s = s} r re =
     let sh = re s r.tree r.nodes r.kept in
     record { shows = record { standing = sh.standing; holds = λ x l. sh.holds x l ∙ r.holds x l }; still = r.still }
@@ -37,7 +37,7 @@ pub puts-grows : (w w' : List ℕ) (h k : World) (a b : ℕ) (v : Bool) {y : Lin
 puts-grows w w' h k a b v p r = (subst (λ q. PutsIn w w' h q a b v) (sym r.root_is) p, r.no-offset)
 
 -- the world tells of what was held, so little is left to find out
-pub reached-resettable : {w w' : List ℕ} {s : Share} {h : World} {y : Links} (a b : ℕ) (v : Bool) → Standing w s h → h.offset < size → a ≤ b → b < size
+pub reached-resettable : {w w' : List ℕ} {s : Footprint} {h : World} {y : Links} (a b : ℕ) (v : Bool) → Standing w s h → h.offset < size → a ≤ b → b < size
     → Reached w w' s y h.offset (set_range a (suc b - a) v (held_in w h)) → Resettable w' y h a b v
 reached-resettable {w} {w'} {s} {h} a b v st small le below r = (
   s,
@@ -61,7 +61,7 @@ reached-resettable {w} {w'} {s} {h} a b v st small le below r = (
     some nz (inr l) = absurd (nz (omega (arith, st.runs-are)))
 
 -- what Holding tells of the logical positions
-holding-reached : {w w' : List ℕ} {s : Share} {y : Links} {X P : Positions} (o : ℕ) → Holding w w' s y X
+holding-reached : {w w' : List ℕ} {s : Footprint} {y : Links} {X P : Positions} (o : ℕ) → Holding w w' s y X
     → ((x : ℕ) → x < size → turned o X x ≡ P x) → Reached w w' s y o P
 holding-reached {X = X} o k f = record {
   tree = k.tree;
@@ -87,7 +87,7 @@ whole-puts w w' h q v {x} {a} {b} {s} {e} ex l le g z =
     subst (λ p. Sprouts w w' p q a b v) (ap (λ (y : Links). y.root) ex)
     (subst (λ i. Sprouts w w' x.root q i b v) u.0 (subst (λ j. Sprouts w w' x.root q s j v) u.1 g))
 
-module _ {w : List ℕ} {h : World} {x : Links} {a n s e : ℕ} (v : Bool) (ex : x ≡ links_of h) (lies : Lies h.offset a n s e) {sh : Share} {limit : ℕ} (lim : Limited w sh h limit) where
+module _ {w : List ℕ} {h : World} {x : Links} {a n s e : ℕ} (v : Bool) (ex : x ≡ links_of h) (lies : Lies h.offset a n s e) {sh : Footprint} {limit : ℕ} (lim : Limited w sh h limit) where
   -- its physical positions
   abbrev places : Positions
   places = physical_in lim.standing

@@ -12,12 +12,12 @@ use Rattle.model.proofs.Counting.{among-yes, among_below, among-above, beq-true}
 use Rattle.model.proofs.Runs.{runs_in-canon, runs_in-mem, held_runs-is, mem-held_runs}
 use Rattle.model.proofs.RunList.{canon-weaken}
 use Rattle.model.proofs.After.{set-inside, set_below, set-above}
-use Rattle.store.specs.Places.{physical_of, logical_of}
-use Rattle.store.specs.Layout.{turned}
-use Rattle.store.specs.Soundness.{first_of, last_of}
-use Rattle.store.proofs.Ends.{clash, empty-mem}
+use Rattle.pool.specs.Places.{physical_of, logical_of}
+use Rattle.pool.specs.Layout.{turned}
+use Rattle.pool.specs.Soundness.{first_of, last_of}
+use Rattle.pool.proofs.Ends.{clash, empty-mem}
 use Rattle.model.proofs.Moved.{Alike, move, move_run, move_runs, moved_length, runs_in-moved}
-use Rattle.store.proofs.Turn.{turned-at}
+use Rattle.pool.proofs.Turn.{turned-at}
 use Rattle.changes.proofs.SetRuns.{clear-top, clear-bottom}
 
 -- ---- what a shift puts at x

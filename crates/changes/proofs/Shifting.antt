@@ -7,19 +7,19 @@ use Rattle.model.proofs.Numbers.{split}
 use Rattle.model.specs.Positions.{Positions, mem, held_runs, stretches, empty, set_range, shift_left, shift_right, shift_by}
 use Rattle.model.proofs.After.{set-inside, set_below, set-above}
 use Rattle.run_index.specs.Tree.{Tree, leaf, node, runs, inorder, At}
-use Rattle.store.specs.declared.World.{World}
-use Rattle.store.specs.declared.Links.{Links}
-use Rattle.store.specs.Places.{physical_of, logical_of}
-use Rattle.store.specs.Layout.{links_of, turned, held_in}
-use Rattle.store.specs.Soundness.{first_of, last_of, Share, Still, Standing, Limited}
-use Rattle.store.specs.Free.{Becomes, Keepable, GivesBack}
-use Rattle.store.specs.Settle.{Became, Refreshes}
-use Rattle.store.proofs.Turn.{turned_zero}
-use Rattle.store.proofs.Ends.{clash, empty-mem, Ends, held-ends}
-use Rattle.store.proofs.Nodes.{still-same}
-use Rattle.store.proofs.Reached.{kept-held}
-use Rattle.store.proofs.Emptying.{rootless-empty}
-use Rattle.store.proofs.Opening.{physical_in, standing-held, standing-some}
+use Rattle.pool.specs.declared.World.{World}
+use Rattle.pool.specs.declared.Links.{Links}
+use Rattle.pool.specs.Places.{physical_of, logical_of}
+use Rattle.pool.specs.Layout.{links_of, turned, held_in}
+use Rattle.pool.specs.Soundness.{first_of, last_of, Footprint, SameFrame, Standing, Limited}
+use Rattle.pool.specs.Free.{Becomes, Keepable, GivesBack}
+use Rattle.pool.specs.Settle.{Became, Refreshes}
+use Rattle.pool.proofs.Turn.{turned_zero}
+use Rattle.pool.proofs.Ends.{clash, empty-mem, Ends, held-ends}
+use Rattle.pool.proofs.Nodes.{still-same}
+use Rattle.pool.proofs.Reached.{kept-held}
+use Rattle.pool.proofs.Emptying.{rootless-empty}
+use Rattle.pool.proofs.Opening.{physical_in, standing-held, standing-some}
 use Rattle.changes.specs.Edits.{Makes, Appliable, Empties, Leaves, Moves}
 use Rattle.changes.proofs.SetRuns.{clear-top, clear-bottom}
 use Rattle.changes.proofs.Shifted.{
@@ -45,7 +45,7 @@ rooted-runs leaf h nz = absurd (nz (sym h.linked))
 rooted-runs (node n a b l r) h nz = omega arith
 
 -- a world with a root tells the first and the last position
-pub world-ends : {w : List ℕ} {s : Share} {h : World} → Standing w s h → (h.root ≡ 0 → ⊥) → h.offset < size → Ends (held_in w h) h.first h.last
+pub world-ends : {w : List ℕ} {s : Footprint} {h : World} → Standing w s h → (h.root ≡ 0 → ⊥) → h.offset < size → Ends (held_in w h) h.first h.last
 world-ends {w} {s} {h} st nz small =
     let g = standing-some st small (rooted-runs st.tree st.kept.linked nz) in
     subst (λ (a : ℕ). Ends (held_in w h) a h.last) (sym st.first-is)
@@ -55,11 +55,11 @@ world-ends {w} {s} {h} st nz small =
 module _ {w : List ℕ} {h : World} {x : Links} (ex : x ≡ links_of h) where
   module _ {w' : List ℕ} {y : Links} (gb : GivesBack w w' x y) where
     -- what they are then
-    given : {s : Share} → Standing w s h → Becomes w w' s y []
+    given : {s : Footprint} → Standing w s h → Becomes w w' s y []
     given {s} st = gb s st.tree st.free (links-kept ex st)
 
     -- they are kept
-    pub given-keepable : {s : Share} → Standing w s h → Keepable w' y
+    pub given-keepable : {s : Footprint} → Standing w s h → Keepable w' y
     given-keepable {s} st = let b = given st in (s, b.tree, b.nodes, b.kept)
 
     -- and the world holds nothing
@@ -77,14 +77,14 @@ module _ {w : List ℕ} {h : World} {x : Links} (ex : x ≡ links_of h) where
         }
 
 -- an empty world holds what is nothing
-emptied-became : {w w' : List ℕ} {s : Share} {k : World} (R : Positions) → Became w w' s k empty → ((x : ℕ) → x < size → R x ≡ false) → Became w w' s k R
+emptied-became : {w w' : List ℕ} {s : Footprint} {k : World} (R : Positions) → Became w w' s k empty → ((x : ℕ) → x < size → R x ≡ false) → Became w w' s k R
 unfolding empty
 emptied-became R e f = record {
   shows = record { standing = e.shows.standing; holds = λ x l. e.shows.holds x l ∙ sym (f x l) };
   still = e.still;
 }
 
-module _ {w w' : List ℕ} {s : Share} (h : World) {k : World} {a b : ℕ} (d : ℕ) (en : Ends (held_in w h) a b) where
+module _ {w w' : List ℕ} {s : Footprint} (h : World) {k : World} {a b : ℕ} (d : ℕ) (en : Ends (held_in w h) a b) where
   -- up
   pub up-empty : size ≤ a + d → Became w w' s k empty → Became w w' s k (shift_left d (held_in w h))
   up-empty l e = emptied-became (shift_left d (held_in w h)) e (left-nothing d (held_in w h) (λ y i. en.under y (omega arith)))
@@ -95,10 +95,10 @@ module _ {w w' : List ℕ} {s : Share} (h : World) {k : World} {a b : ℕ} (d : 
 
 -- ---- some would leave
 -- the world k, in u, is h without the n positions from a, which would leave: so it moves as h does
-pub record Cleared (w u : List ℕ) (s : Share) (h k : World) (a n : ℕ) (moved : Positions → Positions) : Type 0 where
+pub record Cleared (w u : List ℕ) (s : Footprint) (h k : World) (a n : ℕ) (moved : Positions → Positions) : Type 0 where
   pub standing : Standing u s k
   pub some : k.root ≡ 0 → ⊥
-  pub still : Still w u s
+  pub still : SameFrame w u s
   pub none : (y : ℕ) → a ≤ y → y < a + n → held_in u k y ≡ false
   pub same : (x : ℕ) → x < size → moved (held_in u k) x ≡ moved (held_in w h) x
 
@@ -107,7 +107,7 @@ held-root : (w : List ℕ) (h : World) (x : ℕ) → held_in w h x ≡ true → 
 unfolding empty
 held-root w h x e z = clash e (ap (λ (P : Positions). P x) (rootless-empty w h.root h.offset z))
 
-module _ {w : List ℕ} {s : Share} {h : World} where
+module _ {w : List ℕ} {s : Footprint} {h : World} where
   -- it held none of those
   uncleared : (a n : ℕ) (moved : Positions → Positions) → Standing w s h → (h.root ≡ 0 → ⊥) → ((y : ℕ) → a ≤ y → y < a + n → held_in w h y ≡ false)
       → Cleared w w s h h a n moved
@@ -131,12 +131,12 @@ module _ {w : List ℕ} {s : Share} {h : World} where
       others y i (inr l) = be.shows.holds y i ∙ set-above b m false (held_in w h) y (omega arith)
 
 -- words and a world that are the same are so too
-pub cleared-same : {w u v : List ℕ} {s : Share} {h k l : World} {a n : ℕ} {moved : Positions → Positions} → v ≡ u → l ≡ k → Cleared w u s h k a n moved
+pub cleared-same : {w u v : List ℕ} {s : Footprint} {h k l : World} {a n : ℕ} {moved : Positions → Positions} → v ≡ u → l ≡ k → Cleared w u s h k a n moved
     → Cleared w v s h l a n moved
 cleared-same {w} {u} {v} {s} {h} {k} {l} {a} {n} {moved} p q c =
     subst (λ (z : List ℕ). Cleared w z s h l a n moved) (sym p) (subst (λ (z : World). Cleared w u s h z a n moved) (sym q) c)
 
-module _ {w : List ℕ} {s : Share} {h : World} {limit : ℕ} (lim : Limited w s h limit) where
+module _ {w : List ℕ} {s : Footprint} {h : World} {limit : ℕ} (lim : Limited w s h limit) where
   -- up: what would leave may be cleared
   up-few : (a n : ℕ) → a + n ≡ size → stretches (set_range a n false (held_in w h)) ≤ limit
   up-few a n e =
@@ -192,7 +192,7 @@ abbrev pub moved_world : World → ℕ → ℕ → ℕ → World
 moved_world h o a b = record { tag = h.tag; root = h.root; free = h.free; offset = o; ones = h.ones; runs = h.runs; first = a; last = b }
 
 -- a world whose offset moves its positions
-moved-became : {w u : List ℕ} {s : Share} {h k : World} {a n o : ℕ} {moved : Positions → Positions} {by : ℕ → ℕ} (c : Cleared w u s h k a n moved)
+moved-became : {w u : List ℕ} {s : Footprint} {h k : World} {a n o : ℕ} {moved : Positions → Positions} {by : ℕ → ℕ} (c : Cleared w u s h k a n moved)
     → MovedBy (held_in u k) (turned o (physical_in c.standing)) moved by → Became w u s (moved_world k o (by k.first) (by k.last)) (moved (held_in w h))
 moved-became {u = u} {k = k} {o = o} {by = by} c m =
     let st = c.standing in
@@ -215,7 +215,7 @@ moved-became {u = u} {k = k} {o = o} {by = by} c m =
     }
 
 -- ---- up
-module _ {w u : List ℕ} {s : Share} {h k : World} {d : ℕ} (c : Cleared w u s h k (size - d) d (shift_left d)) (small : k.offset < size) (fits : d < size) where
+module _ {w u : List ℕ} {s : Footprint} {h k : World} {d : ℕ} (c : Cleared w u s h k (size - d) d (shift_left d)) (small : k.offset < size) (fits : d < size) where
   -- the first and the last position
   up_ends : Ends (held_in u k) k.first k.last
   up_ends = world-ends c.standing c.some small
@@ -246,7 +246,7 @@ module _ {w u : List ℕ} {s : Share} {h k : World} {d : ℕ} (c : Cleared w u s
       }))
 
 -- ---- down
-module _ {w u : List ℕ} {s : Share} {h k : World} {d : ℕ} (c : Cleared w u s h k 0 d (shift_right d)) (small : k.offset < size) (fits : d < size) where
+module _ {w u : List ℕ} {s : Footprint} {h k : World} {d : ℕ} (c : Cleared w u s h k 0 d (shift_right d)) (small : k.offset < size) (fits : d < size) where
   -- the first and the last position
   down_ends : Ends (held_in u k) k.first k.last
   down_ends = world-ends c.standing c.some small
@@ -280,7 +280,7 @@ module _ {w u : List ℕ} {s : Share} {h k : World} {d : ℕ} (c : Cleared w u s
 
 -- ---- whether to move
 -- the world stays if its positions do
-stays : {w : List ℕ} {s : Share} {h : World} (R : Positions) → Standing w s h → ((x : ℕ) → x < size → held_in w h x ≡ R x) → Became w w s h R
+stays : {w : List ℕ} {s : Footprint} {h : World} (R : Positions) → Standing w s h → ((x : ℕ) → x < size → held_in w h x ≡ R x) → Became w w s h R
 stays R st f = record { shows = record { standing = st; holds = f }; still = still-same }
 
 -- without a root nothing is held, and so afterwards
@@ -306,11 +306,11 @@ all_stay {w} {h} {d} left z s limit lim = stays (shift_by d left (held_in w h)) 
 -- ---- either way
 module _ {w : List ℕ} {h : World} {d : ℕ} (low high up : ℕ) (fits : d < size) (far : d ≡ 0 → ⊥) where
   -- what leaves may be cleared
-  pub leaving-applies : {s : Share} {limit : ℕ} (left : Bool) → Leaves d left low high up → Limited w s h limit → Appliable w h low high false
+  pub leaving-applies : {s : Footprint} {limit : ℕ} (left : Bool) → Leaves d left low high up → Limited w s h limit → Appliable w h low high false
   leaving-applies true l lim = up-applies lim low high (omega (arith, l.0, l.1)) (omega (arith, l.1))
   leaving-applies false l lim = rw l.0 (down-applies lim high (omega (arith, l.1)))
 
-  module _ {s : Share} {limit : ℕ} (lim : Limited w s h limit) (nz : h.root ≡ 0 → ⊥) (small : h.offset < size) where
+  module _ {s : Footprint} {limit : ℕ} (lim : Limited w s h limit) (nz : h.root ≡ 0 → ⊥) (small : h.offset < size) where
     -- all leave
     pub all-leave : {w' : List ℕ} {k : World} (left : Bool) → Leaves d left low high up → low ≤ h.first → h.last ≤ high → Became w w' s k empty
         → Became w w' s k (shift_by d left (held_in w h))
@@ -341,7 +341,7 @@ module _ {w : List ℕ} {h : World} {d : ℕ} (low high up : ℕ) (fits : d < si
         (subst (λ (a : ℕ). Makes w u h k (set_range a (suc high - a) false (held_in w h))) l.0 mk))
 
   -- the rest is moved
-  pub rest-moves : {u : List ℕ} {s : Share} {k : World} (left : Bool) → Leaves d left low high up → Cleared w u s h k low d (shift_by d left) → k.offset < size
+  pub rest-moves : {u : List ℕ} {s : Footprint} {k : World} (left : Bool) → Leaves d left low high up → Cleared w u s h k low d (shift_by d left) → k.offset < size
       → Became w u s (moved_world k ((k.offset + up) % 2 ^ 64) ((k.first + up) % 2 ^ 64) ((k.last + up) % 2 ^ 64)) (shift_by d left (held_in w h))
   unfolding shift_by
   rest-moves {u} {s} {k} true l c small =

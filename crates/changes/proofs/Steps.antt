@@ -15,20 +15,20 @@ use Rattle.run_index.specs.Tree.{Tree, inorder}
 use Rattle.run_index.specs.Order.{insert_run, remove_run, replace_run, Before, Starts, Has}
 use Rattle.run_index.specs.Search.{Indexed, runs_from}
 use Rattle.run_index.proofs.Totals.{runs-length}
-use Rattle.store.specs.declared.Links.{Links}
-use Rattle.store.specs.Soundness.{Share, Kept}
-use Rattle.store.specs.Free.{RoomFor, Addable, Becomes, Adds, HasRun, Removable, RemovesRun, Alterable, Changeable, Changes}
+use Rattle.pool.specs.declared.Links.{Links}
+use Rattle.pool.specs.Soundness.{Footprint, Represents}
+use Rattle.pool.specs.Free.{RoomFor, Addable, Becomes, Adds, HasRun, Removable, RemovesRun, Alterable, Changeable, Changes}
 use Rattle.changes.specs.Change.{MaySet, Holding}
-use Rattle.store.proofs.Nodes.{kept-index, still-then, still-same}
-use Rattle.store.proofs.Reached.{kept-runs}
+use Rattle.pool.proofs.Nodes.{kept-index, still-then, still-same}
+use Rattle.pool.proofs.Reached.{kept-runs}
 use Rattle.changes.proofs.Counting.{runs_of, runs_of_lem}
 use Rattle.changes.proofs.Lists.{last_none, Around, last-around, starts-at, has-at, remove-at, replace-at, insert-at, canon-before}
 
 -- nothing is done yet
-pub becomes-none : {w : List ℕ} {sh : Share} {x : Links} {t : Tree} {ns : List ℕ} {rs : List Run} → Kept w sh x t ns → inorder t ≡ rs → Becomes w w sh x rs
+pub becomes-none : {w : List ℕ} {sh : Footprint} {x : Links} {t : Tree} {ns : List ℕ} {rs : List Run} → Represents w sh x t ns → inorder t ≡ rs → Becomes w w sh x rs
 becomes-none {t = t} {ns = ns} k e = record { tree = t; nodes = ns; kept = k; runs-are = e; still = still-same }
 
-module _ {w w1 : List ℕ} {sh : Share} {y : Links} {rs : List Run} (u : Becomes w w1 sh y rs) where
+module _ {w w1 : List ℕ} {sh : Footprint} {y : Links} {rs : List Run} (u : Becomes w w1 sh y rs) where
   -- its runs are canonical
   pub becomes-canon : Canon size 0 rs
   becomes-canon = subst (Canon size 0) u.runs-are u.kept.ordered
@@ -54,7 +54,7 @@ module _ {w w1 : List ℕ} {sh : Share} {y : Links} {rs : List Run} (u : Becomes
   becomes-after p n f = f ∙ ap (first_from p) (kept-runs u.kept ∙ u.runs-are)
 
 -- a run between ls and us
-module _ {w w1 : List ℕ} {sh : Share} {y : Links} (ls : List Run) (r : Run) (us : List Run) (u : Becomes w w1 sh y (ls ++ (r ∷ us))) where
+module _ {w w1 : List ℕ} {sh : Footprint} {y : Links} (ls : List Run) (r : Run) (us : List Run) (u : Becomes w w1 sh y (ls ++ (r ∷ us))) where
   -- it is there
   has-run : HasRun w1 sh y r.start u.tree u.nodes
   has-run = record { kept = u.kept; starts = subst (Starts r.start) (sym u.runs-are) (starts-at r us ls) }
@@ -87,7 +87,7 @@ module _ {w w1 : List ℕ} {sh : Share} {y : Links} (ls : List Run) (r : Run) (u
     becomes-changed {w2} f = subst (Becomes w w2 sh y) replaced (becomes-then u (f sh u.tree u.nodes alterable))
 
 -- a new run a .. b between ls and us, where the nodes are enough
-module _ {w w1 : List ℕ} {sh : Share} {y : Links} (ls us : List Run) (u : Becomes w w1 sh y (ls ++ us)) (a b : ℕ) (before : Before a ls)
+module _ {w w1 : List ℕ} {sh : Footprint} {y : Links} (ls us : List Run) (u : Becomes w w1 sh y (ls ++ us)) (a b : ℕ) (before : Before a ls)
     (after : StartFrom (a + 1) us) (o : a ≤ b) (c : Canon size 0 (ls ++ (run a b ∷ us))) (few : length (ls ++ (run a b ∷ us)) ≤ sh.own) where
   -- the runs with it
   added : insert_run (run a b) (inorder u.tree) ≡ ls ++ (run a b ∷ us)
@@ -120,11 +120,11 @@ module _ {w w1 : List ℕ} {sh : Share} {y : Links} (ls us : List Run) (u : Beco
 -- ---- setting
 -- r is the last run that starts at s or before it
 pub record FoundRun (w : List ℕ) (x : Links) (s : ℕ) (r : Run) : Type 0 where
-  pub around : {sh : Share} {t : Tree} {ns : List ℕ} → Kept w sh x t ns → Around s r (inorder t)
+  pub around : {sh : Footprint} {t : Tree} {ns : List ℕ} → Represents w sh x t ns → Around s r (inorder t)
 
 -- all runs start after s
 pub record FoundNone (w : List ℕ) (x : Links) (s : ℕ) : Type 0 where
-  pub after : {sh : Share} {t : Tree} {ns : List ℕ} → Kept w sh x t ns → StartFrom (s + 1) (inorder t)
+  pub after : {sh : Footprint} {t : Tree} {ns : List ℕ} → Represents w sh x t ns → StartFrom (s + 1) (inorder t)
 
 module _ {w : List ℕ} {x : Links} {s : ℕ} (n : Option Run) (f : n ≡ last_up_to s (runs_from w x.root)) where
   -- the search has found r
@@ -147,7 +147,7 @@ among-inside s e x h = ap (λ (t : Bool). leb s x && t) (go (split e x))
     go (inl l) = lt-leb x e l ∙ sym (le-ltb x (s + (suc e - s)) (omega arith))
     go (inr l) = le-leb x e l ∙ sym (lt-ltb x (s + (suc e - s)) (omega arith))
 
-module _ {w : List ℕ} {sh : Share} {x : Links} {s e : ℕ} {v : Bool} {t : Tree} {ns : List ℕ} (o : s ≤ e) (m : MaySet w sh x s e v t ns) where
+module _ {w : List ℕ} {sh : Footprint} {x : Links} {s e : ℕ} {v : Bool} {t : Tree} {ns : List ℕ} (o : s ≤ e) (m : MaySet w sh x s e v t ns) where
   -- the runs set by the model have the positions set
   set-mem : (p : ℕ) → mem (set_to v s e (inorder t)) p ≡ set_range s (suc e - s) v (mem (inorder t)) p
   unfolding set_range

@@ -9,9 +9,9 @@ use Rattle.model.proofs.Search.{canon-split, canon-starts, starts-weaken}
 use Rattle.model.proofs.Edit.{set_to}
 use Rattle.run_index.specs.Tree.{Tree, inorder}
 use Rattle.run_index.specs.Order.{Before}
-use Rattle.store.specs.declared.Links.{Links}
-use Rattle.store.specs.Soundness.{Share}
-use Rattle.store.specs.Free.{Becomes, Addable, Adds, Changeable, Changes}
+use Rattle.pool.specs.declared.Links.{Links}
+use Rattle.pool.specs.Soundness.{Footprint}
+use Rattle.pool.specs.Free.{Becomes, Addable, Adds, Changeable, Changes}
 use Rattle.changes.specs.Change.{MaySet, Settable, Holding, Sets, Cut, Clearable, ClearsFrom}
 use Rattle.changes.proofs.Lists.{Around, ends-before, ends_more, ends_last, append-one, canon-shrink, canon-below}
 use Rattle.changes.proofs.Steps.{
@@ -47,24 +47,24 @@ clear_both s e r us o h l =
 
 -- ---- the runs set
 -- links that lead to those of `clear` hold what is left
-lowered : {w w' : List ℕ} {sh : Share} {x y : Links} {s e : ℕ} {t : Tree} {ns : List ℕ} → s ≤ e → MaySet w sh x s e false t ns → Becomes w w' sh y (clear s e (inorder t))
+lowered : {w w' : List ℕ} {sh : Footprint} {x y : Links} {s e : ℕ} {t : Tree} {ns : List ℕ} → s ≤ e → MaySet w sh x s e false t ns → Becomes w w' sh y (clear s e (inorder t))
     → Holding w w' sh y (set_range s (suc e - s) false (mem (inorder t)))
 unfolding set_to
 lowered o m u = set-holding o m u
 
 -- they are canonical
-lowered-canon : {w : List ℕ} {sh : Share} {x : Links} {s e : ℕ} {t : Tree} {ns : List ℕ} → s ≤ e → MaySet w sh x s e false t ns → Canon size 0 (clear s e (inorder t))
+lowered-canon : {w : List ℕ} {sh : Footprint} {x : Links} {s e : ℕ} {t : Tree} {ns : List ℕ} → s ≤ e → MaySet w sh x s e false t ns → Canon size 0 (clear s e (inorder t))
 unfolding set_to
 lowered-canon o m = set-canon o m
 
 -- the nodes are enough for them
-lowered-few : {w : List ℕ} {sh : Share} {x : Links} {s e : ℕ} {t : Tree} {ns : List ℕ} → s ≤ e → MaySet w sh x s e false t ns → length (clear s e (inorder t)) ≤ sh.own
+lowered-few : {w : List ℕ} {sh : Footprint} {x : Links} {s e : ℕ} {t : Tree} {ns : List ℕ} → s ≤ e → MaySet w sh x s e false t ns → length (clear s e (inorder t)) ≤ sh.own
 unfolding set_to
 lowered-few o m = set-few o m
 
 -- ---- no run goes on from before s
 -- the runs ls end before s, us start at s or after it, and what is left of us is left of all
-pub record Trim (w w1 : List ℕ) (sh : Share) (x : Links) (s e : ℕ) (rs : List Run) : Type 0 where
+pub record Trim (w w1 : List ℕ) (sh : Footprint) (x : Links) (s e : ℕ) (rs : List Run) : Type 0 where
   pub ls : List Run
   pub us : List Run
   pub becomes : Becomes w w1 sh x (ls ++ us)
@@ -74,7 +74,7 @@ pub record Trim (w w1 : List ℕ) (sh : Share) (x : Links) (s e : ℕ) (rs : Lis
 
 -- it is so in the tree
 pub record Trimmed (w w1 : List ℕ) (x : Links) (s e : ℕ) : Type 0 where
-  pub trim : {sh : Share} {t : Tree} {ns : List ℕ} → MaySet w sh x s e false t ns → Trim w w1 sh x s e (inorder t)
+  pub trim : {sh : Footprint} {t : Tree} {ns : List ℕ} → MaySet w sh x s e false t ns → Trim w w1 sh x s e (inorder t)
 
 -- equal words are trimmed alike
 pub trimmed-same : {w w1 v : List ℕ} {x : Links} {s e : ℕ} → v ≡ w1 → Trimmed w w1 x s e → Trimmed w v x s e
@@ -82,7 +82,7 @@ trimmed-same {w} {x = x} {s = s} {e = e} same d = subst (λ (u : List ℕ). Trim
 
 module _ {w w1 : List ℕ} {x : Links} {s e : ℕ} (o : s ≤ e) (d : Trimmed w w1 x s e) where
   -- the runs are cut at s
-  cut : {sh : Share} {t : Tree} {ns : List ℕ} (m : MaySet w sh x s e false t ns)
+  cut : {sh : Footprint} {t : Tree} {ns : List ℕ} (m : MaySet w sh x s e false t ns)
       → Cut w1 sh x s (d.trim m).ls (d.trim m).us (d.trim m).becomes.tree (d.trim m).becomes.nodes
   cut m =
       let a = d.trim m in
@@ -94,7 +94,7 @@ module _ {w w1 : List ℕ} {x : Links} {s e : ℕ} (o : s ≤ e) (d : Trimmed w 
 
   module _ {w2 : List ℕ} {y : Links} (g : ClearsFrom w1 w2 x y s e) where
     -- `clear_from` makes those of `clear`
-    cleared : {sh : Share} {t : Tree} {ns : List ℕ} (m : MaySet w sh x s e false t ns) → Becomes w w2 sh y (clear s e (inorder t))
+    cleared : {sh : Footprint} {t : Tree} {ns : List ℕ} (m : MaySet w sh x s e false t ns) → Becomes w w2 sh y (clear s e (inorder t))
     cleared {sh} m =
         let a = d.trim m in
         subst (Becomes w w2 sh y) (sym a.is) (becomes-then a.becomes (g sh a.ls a.us a.becomes.tree a.becomes.nodes (cut m)))
@@ -119,7 +119,7 @@ trimmed-none {s = s} q = record {
 
 -- it is r
 module _ {w : List ℕ} {x : Links} {s e : ℕ} {r : Run} (o : s ≤ e) (q : FoundRun w x s r) where
-  module _ {sh : Share} {t : Tree} {ns : List ℕ} (m : MaySet w sh x s e false t ns) where
+  module _ {sh : Footprint} {t : Tree} {ns : List ℕ} (m : MaySet w sh x s e false t ns) where
     -- the runs around r
     around : Around s r (inorder t)
     around = q.around m.kept
@@ -176,7 +176,7 @@ module _ {w : List ℕ} {x : Links} {s e : ℕ} {r : Run} (o : s ≤ e) (q : Fou
 
   -- it goes on from before s
   module _ (lt : r.start < s) (le : s ≤ r.«end») where
-    module _ {sh : Share} {t : Tree} {ns : List ℕ} (m : MaySet w sh x s e false t ns) where
+    module _ {sh : Footprint} {t : Tree} {ns : List ℕ} (m : MaySet w sh x s e false t ns) where
       -- the runs with r up to s - 1 are canonical
       back-canon : Canon size 0 ((around m).ls ++ (run r.start (s - 1) ∷ (around m).us))
       back-canon =
@@ -188,7 +188,7 @@ module _ {w : List ℕ} {x : Links} {s e : ℕ} {r : Run} (o : s ≤ e) (q : Fou
         becomes-changeable (around p.3).ls r (around p.3).us (at_first p.3) r.start (s - 1) (omega arith) (back-canon p.3)
 
     module _ {w1 : List ℕ} (g : Changes w w1 x r.start r.«end» r.start (s - 1)) where
-      module _ {sh : Share} {t : Tree} {ns : List ℕ} (m : MaySet w sh x s e false t ns) where
+      module _ {sh : Footprint} {t : Tree} {ns : List ℕ} (m : MaySet w sh x s e false t ns) where
         -- the runs with r up to s - 1
         back-becomes : Becomes w w1 sh x (((around m).ls ++ (run r.start (s - 1) ∷ [])) ++ (around m).us)
         back-becomes =
@@ -227,7 +227,7 @@ module _ {w : List ℕ} {x : Links} {s e : ℕ} {r : Run} (o : s ≤ e) (q : Fou
 
       -- it goes on after e
       module _ (l : e < r.«end») where
-        module _ {sh : Share} {t : Tree} {ns : List ℕ} (m : MaySet w sh x s e false t ns) where
+        module _ {sh : Footprint} {t : Tree} {ns : List ℕ} (m : MaySet w sh x s e false t ns) where
           -- the runs set have both parts of r
           both : clear s e (inorder t) ≡ ((around m).ls ++ (run r.start (s - 1) ∷ [])) ++ (run (e + 1) r.«end» ∷ (around m).us)
           both =

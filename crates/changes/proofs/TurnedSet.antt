@@ -6,9 +6,9 @@ use Rattle.model.proofs.Numbers.{split}
 use Rattle.model.specs.Positions.{Positions, among, set_range}
 use Rattle.model.proofs.Counting.{among-yes, among_below, among-above}
 use Rattle.model.proofs.After.{set-inside, set_below, set-above}
-use Rattle.store.specs.Places.{physical_of}
-use Rattle.store.specs.Layout.{turned}
-use Rattle.store.proofs.Turn.{Lies, turned-at, whole-fits, whole_length, parted-length, parted-middle}
+use Rattle.pool.specs.Places.{physical_of}
+use Rattle.pool.specs.Layout.{turned}
+use Rattle.pool.proofs.Turn.{Lies, turned-at, whole-fits, whole_length, parted-length, parted-middle}
 
 -- sets that agree below 2^64 agree when turned
 pub turned-cong : (o : ℕ) (Q R : Positions) → ((y : ℕ) → y < size → Q y ≡ R y) → (x : ℕ) → x < size → turned o Q x ≡ turned o R x

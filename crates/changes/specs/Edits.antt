@@ -8,16 +8,16 @@ use Rattle.model.specs.Numbers.{size, worth}
 use Rattle.model.specs.Positions.{Positions, one_if, set_range, stretches, changes, empty, mem}
 use Rattle.model.specs.Neighbours.{goes_on, held_below, held_above}
 use Rattle.run_index.specs.Tree.{Tree, inorder}
-use Rattle.store.specs.declared.World.{World}
-use Rattle.store.specs.declared.Links.{Links}
-use Rattle.store.specs.Layout.{turned, held_in}
-use Rattle.store.specs.Soundness.{Share, Still, Kept, Standing, Limited}
-use Rattle.store.specs.Settle.{Became}
-use Rattle.store.specs.Free.{Sprouts}
+use Rattle.pool.specs.declared.World.{World}
+use Rattle.pool.specs.declared.Links.{Links}
+use Rattle.pool.specs.Layout.{turned, held_in}
+use Rattle.pool.specs.Soundness.{Footprint, SameFrame, Represents, Standing, Limited}
+use Rattle.pool.specs.Settle.{Became}
+use Rattle.pool.specs.Free.{Sprouts}
 
 -- whatever share the world h has of the nodes w, and whatever limit, it became k and holds Q
 abbrev pub Makes : List ℕ → List ℕ → World → World → Positions → Type 0
-Makes w w' h k Q = (s : Share) (limit : ℕ) → Limited w s h limit → stretches Q ≤ limit → Became w w' s k Q
+Makes w w' h k Q = (s : Footprint) (limit : ℕ) → Limited w s h limit → stretches Q ≤ limit → Became w w' s k Q
 
 -- a change that made k of a world, in which c positions changed
 abbrev pub changed_to : World → Count → Option Edit
@@ -48,25 +48,25 @@ Fitted w w' h limit Q None = (limit < stretches Q) × (w' ≡ w)
 Fitted w w' h limit Q (Some k) = (stretches Q ≤ limit) × Makes w w' h k Q
 
 -- a .. b may get the value v: at most as many runs are left as the world may have
-pub record MayApply (w : List ℕ) (s : Share) (h : World) (limit a b : ℕ) (v : Bool) : Type 0 where
+pub record MayApply (w : List ℕ) (s : Footprint) (h : World) (limit a b : ℕ) (v : Bool) : Type 0 where
   pub limited : Limited w s h limit
   pub ordered : a ≤ b
   pub few : stretches (set_range a (suc b - a) v (held_in w h)) ≤ limit
 
 abbrev pub Appliable : List ℕ → World → ℕ → ℕ → Bool → Type 0
-Appliable w h a b v = (s : Share) × (limit : ℕ) × MayApply w s h limit a b v
+Appliable w h a b v = (s : Footprint) × (limit : ℕ) × MayApply w s h limit a b v
 
 -- the links y lead to physical positions in w' that are P, turned by the offset o; others stand still
-pub record Reached (w w' : List ℕ) (s : Share) (y : Links) (o : ℕ) (P : Positions) : Type 0 where
+pub record Reached (w w' : List ℕ) (s : Footprint) (y : Links) (o : ℕ) (P : Positions) : Type 0 where
   pub tree : Tree
   pub nodes : List ℕ
-  pub kept : Kept w' s y tree nodes
+  pub kept : Represents w' s y tree nodes
   pub holds : (x : ℕ) → x < size → turned o (mem (inorder tree)) x ≡ P x
-  pub still : Still w w' s
+  pub still : SameFrame w w' s
 
 -- whatever share the world h has of the nodes w, and whatever limit, the links y lead to Q
 abbrev pub Places : List ℕ → List ℕ → World → Links → Positions → Type 0
-Places w w' h y Q = (s : Share) (limit : ℕ) → Limited w s h limit → stretches Q ≤ limit → Reached w w' s y h.offset Q
+Places w w' h y Q = (s : Footprint) (limit : ℕ) → Limited w s h limit → stretches Q ≤ limit → Reached w w' s y h.offset Q
 
 -- a world's root and sum tell that n positions are held: the sum is kept modulo 2^64, and a world that holds none has no root
 pub record TellsHeld (root ones n : ℕ) : Type 0 where
@@ -97,11 +97,11 @@ Leaves d false low high up = (low ≡ 0) × (high ≡ d - 1) × (up ≡ size - d
 
 -- a shift adds no run, so only a limit that the world keeps is asked
 abbrev pub Moves : List ℕ → List ℕ → World → World → Positions → Type 0
-Moves w w' h k Q = (s : Share) (limit : ℕ) → Limited w s h limit → Became w w' s k Q
+Moves w w' h k Q = (s : Footprint) (limit : ℕ) → Limited w s h limit → Became w w' s k Q
 
 abbrev pub Movable : List ℕ → World → Type 0
-Movable w h = (s : Share) × (limit : ℕ) × Limited w s h limit
+Movable w h = (s : Footprint) × (limit : ℕ) × Limited w s h limit
 
 -- the world k holds nothing
 abbrev pub Empties : List ℕ → List ℕ → World → World → Type 0
-Empties w w' h k = (s : Share) → Standing w s h → Became w w' s k empty
+Empties w w' h k = (s : Footprint) → Standing w s h → Became w w' s k empty

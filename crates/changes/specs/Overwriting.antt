@@ -7,20 +7,20 @@ use Rattle.model.specs.declared.Operation.{Operation}
 use Rattle.model.specs.Numbers.{size}
 use Rattle.model.specs.Positions.{Positions, mem, stretches}
 use Rattle.model.specs.RunList.{AllWords, Canon}
-use Rattle.store.specs.declared.World.{World}
-use Rattle.store.specs.Soundness.{Share, Standing}
-use Rattle.store.specs.Settle.{Became}
+use Rattle.pool.specs.declared.World.{World}
+use Rattle.pool.specs.Soundness.{Footprint, Standing}
+use Rattle.pool.specs.Settle.{Became}
 use Rattle.streams.specs.declared.feed.Feed.{Feed}
 use Rattle.streams.specs.Feeds.{Sources, joined}
 
 -- ---- a list
 -- a world that n runs can be given to: it has the nodes
 abbrev pub Receives : List ℕ → World → ℕ → Type 0
-Receives w h n = (s : Share) × Standing w s h × (n ≤ s.own)
+Receives w h n = (s : Footprint) × Standing w s h × (n ≤ s.own)
 
 -- it is r now, and has the runs rs
 abbrev pub Received : List ℕ → List ℕ → World → ℕ → World → List Run → Type 0
-Received w w' h n r rs = (s : Share) → Standing w s h → n ≤ s.own → Became w w' s r (mem rs)
+Received w w' h n r rs = (s : Footprint) → Standing w s h → n ≤ s.own → Became w w' s r (mem rs)
 
 -- ---- whatever yields them
 -- WHAT OVERWRITING ASKS: the runs rs come, which are canonical if their ends are words, and the world has nodes for them
@@ -38,16 +38,16 @@ Overwrites gives w w' h r i = (rs : List Run) → Overwritable gives w h i rs �
 
 -- ---- two feeds joined
 -- the world h stands in the nodes w, and its share has nodes for the runs of Q
-pub record Roomy (w : List ℕ) (s : Share) (h : World) (Q : Positions) : Type 0 where
+pub record Roomy (w : List ℕ) (s : Footprint) (h : World) (Q : Positions) : Type 0 where
   pub standing : Standing w s h
   pub enough : stretches Q ≤ s.own
 
 -- both feeds can be read, and some share of the world has nodes for their join
 pub record Gatherable (w : List ℕ) (h : World) (op : Operation) (x y : Feed) : Type 0 where
   pub sources : Sources x y
-  pub share : Share
+  pub share : Footprint
   pub roomy : Roomy w share h (joined op x y)
 
 -- the world r stands in its place and holds Q; others stand still
 abbrev pub Gathers : List ℕ → List ℕ → World → World → Positions → Type 0
-Gathers w w' h r Q = (s : Share) → Roomy w s h Q → Became w w' s r Q
+Gathers w w' h r Q = (s : Footprint) → Roomy w s h Q → Became w w' s r Q

@@ -2,14 +2,14 @@
 // in place, and no more nodes are used on the way than in the end. Where the tree and the free chain start is handed in and back.
 // Words and links stay apart: an edit breaks what a struct of both would promise, and mends it only when it ends.
 ghost use Rattle.std.specs.Prelude.{true, false, ◌≤◌, MatchOption};
-ghost use Rattle.store.specs.Free.{Sprouts};
+ghost use Rattle.pool.specs.Free.{Sprouts};
 ghost use Rattle.changes.specs.Change.{Settable, Sets, Reaching, Apart, Touching, Absorbable, Absorbs, Clearable, ClearsFrom};
 
 use model::Run;
+use pool::Links;
+use pool::places::Physical;
 use reports::physical::Segment;
 use run_index::search::Runs;
-use store::Links;
-use store::places::Physical;
 
 // Gives the positions of s the value.
 // The value is what the caller of a set asked for: closures for the two steps would be chosen by the same test, one call further up.
@@ -29,14 +29,14 @@ fn raise(words: &mut [u64], x: Links, s: Segment) -> Links
     requires { Settable words.old x s.first.0 s.last.0 true }
     ensures { Sets words.old words.new x result s.first.0 s.last.0 true × Sprouts words.old words.new x.root result.root s.first.0 s.last.0 true }
 {
-    let Some(r) = touching(&store::runs_of(words, x), s) else {
-        return store::free::add_run(words, x, s.first.0, s.last.0);
+    let Some(r) = touching(&pool::runs_of(words, x), s) else {
+        return pool::free::add_run(words, x, s.first.0, s.last.0);
     };
     if r.start <= s.first.0 && s.last.0 <= r.end {
         return x;
     }
     let grown = absorb(words, x, r, Physical(s.last.0.max(r.end)));
-    store::free::resize_run(
+    pool::free::resize_run(
         words,
         grown.links,
         r.start,
@@ -83,10 +83,10 @@ fn absorb(words: &mut [u64], x: Links, r: Run, e: Physical) -> Reach
     if e.0 <= r.end {
         return Reach { links, end: e };
     }
-    while let Some(q) = store::runs_of(words, links).at_or_after(r.start + 1)
+    while let Some(q) = pool::runs_of(words, links).at_or_after(r.start + 1)
         && reaches(e, Physical(q.start))
     {
-        links = store::free::remove_run(words, links, q.start);
+        links = pool::free::remove_run(words, links, q.start);
         if e.0 <= q.end {
             return Reach {
                 links,
@@ -102,13 +102,13 @@ fn clear(words: &mut [u64], x: Links, s: Segment) -> Links
     requires { Settable words.old x s.first.0 s.last.0 false }
     ensures { Sets words.old words.new x result s.first.0 s.last.0 false }
 {
-    if let Some(r) = store::runs_of(words, x).at_or_before(s.first.0)
+    if let Some(r) = pool::runs_of(words, x).at_or_before(s.first.0)
         && r.start < s.first.0
         && s.first.0 <= r.end
     {
-        store::free::resize_run(words, x, r.start, r.end, r.start, s.first.0 - 1);
+        pool::free::resize_run(words, x, r.start, r.end, r.start, s.first.0 - 1);
         if s.last.0 < r.end {
-            return store::free::add_run(words, x, s.last.0 + 1, r.end);
+            return pool::free::add_run(words, x, s.last.0 + 1, r.end);
         }
         if s.last.0 - r.end <= 1 {
             return x;
@@ -124,14 +124,14 @@ fn clear_from(words: &mut [u64], x: Links, s: Segment) -> Links
     ensures { ClearsFrom words.old words.new x result s.first.0 s.last.0 }
 {
     let mut links = x;
-    while let Some(r) = store::runs_of(words, links).at_or_after(s.first.0)
+    while let Some(r) = pool::runs_of(words, links).at_or_after(s.first.0)
         && r.start <= s.last.0
     {
         if s.last.0 < r.end {
-            store::free::resize_run(words, links, r.start, r.end, s.last.0 + 1, r.end);
+            pool::free::resize_run(words, links, r.start, r.end, s.last.0 + 1, r.end);
             return links;
         }
-        links = store::free::remove_run(words, links, r.start);
+        links = pool::free::remove_run(words, links, r.start);
         if s.last.0 - r.end <= 1 {
             return links;
         }

@@ -6,15 +6,15 @@ ghost use Rattle.std.specs.Prelude.{◌≡◌, suc, ◌≤◌, length, nat_le, f
 ghost use Rattle.model.specs.Positions.{set_range, flip_range, shift_by, stretches};
 ghost use Rattle.model.specs.Neighbours.{goes_on, held_below, held_above};
 ghost use Rattle.model.specs.Range.{many};
-ghost use Rattle.store.specs.Layout.{held, held_in};
-ghost use Rattle.store.specs.Soundness.{Stands, Editable};
+ghost use Rattle.pool.specs.Layout.{held, held_in};
+ghost use Rattle.pool.specs.Soundness.{Stands, Editable};
 ghost use Rattle.changes.specs.Edits.{Makes, Edited, Grows, GrowsBy, Fitted, Appliable, Places, PutsIn, Gains, SetGains, Surrounds, Empties, Movable, Leaves, Moves};
 
 use model::between::Interval;
 use model::{Count, Logical};
+use pool::places::Physical;
+use pool::{Links, Set, World};
 use reports::physical::Segment;
-use store::places::Physical;
-use store::{Links, Set, World};
 
 // What a change made: the world then, and how many positions changed.
 #[derive(Clone, Copy)]
@@ -77,7 +77,7 @@ pub fn around(set: &Set<'_>, n: u64, r: Interval) -> Border
     requires { n ≡ length set.now.runs }
     ensures { Surrounds (held set.now) r.first.0 r.last.0 result }
 {
-    let total = store::bounds::logical_runs(set, n);
+    let total = pool::bounds::logical_runs(set, n);
     let inside = reports::logical::tally(set, r, true).runs;
     let before = held_before(set, r.first);
     let after = held_after(set, r.last);
@@ -101,7 +101,7 @@ pub fn set_fits(words: &[u64], h: World, limit: u64, r: Interval, value: bool) -
     if h.runs + 2 <= limit {
         return true;
     }
-    let set = store::set_of(words, h);
+    let set = pool::set_of(words, h);
     let border = around(&set, h.runs, r);
     if value {
         // the range is one run, with the neighbours that are held
@@ -116,9 +116,9 @@ fn place(words: &mut [u64], h: World, r: Interval, value: bool) -> Links
     requires { Appliable words.old h r.first.0 r.last.0 value }
     ensures { Places words.old words.new h result (set_range r.first.0 (many r) value (held_in words.old h)) × PutsIn words.old words.new h result.root r.first.0 r.last.0 value }
 {
-    let first = store::places::to_physical(r.first, h.offset);
-    let last = store::places::to_physical(r.last, h.offset);
-    let x = store::links_of(h);
+    let first = pool::places::to_physical(r.first, h.offset);
+    let last = pool::places::to_physical(r.last, h.offset);
+    let x = pool::links_of(h);
     if first.0 <= last.0 {
         let whole = Segment { first, last };
         return crate::change::set_physical(words, x, whole, value);
@@ -141,7 +141,7 @@ pub fn apply_set(words: &mut [u64], h: World, r: Interval, value: bool) -> World
     ensures { Makes words.old words.new h result (set_range r.first.0 (many r) value (held_in words.old h)) × Grows words.old words.new h result r.first.0 r.last.0 value }
 {
     let y = place(words, h, r, value);
-    store::refresh::refresh_set(words, y, h, r, value)
+    pool::refresh::refresh_set(words, y, h, r, value)
 }
 
 // How many positions a world gained, from what it told before and tells after. The sums are kept modulo 2^64, so an empty world that
@@ -193,7 +193,7 @@ pub fn flip_fits(words: &[u64], h: World, limit: u64, r: Interval) -> bool
     if h.runs + 2 <= limit {
         return true;
     }
-    let set = store::set_of(words, h);
+    let set = pool::set_of(words, h);
     let border = around(&set, h.runs, r);
     let gaps = reports::logical::tally(&set, r, false).runs;
     border.outside + border.over + gaps <= limit + border.beside
@@ -211,7 +211,7 @@ pub fn flip(words: &mut [u64], h: World, limit: u64, r: Interval) -> Option<Worl
     let mut k = h;
     let mut x = r.first;
     loop {
-        let set = store::set_of(words, k);
+        let set = pool::set_of(words, k);
         let value = reports::logical::get(&set, x);
         let rest = Interval {
             first: x,
@@ -232,8 +232,8 @@ pub fn emptied(words: &mut [u64], h: World) -> World
     requires { Stands words.old h }
     ensures { Empties words.old words.new h result }
 {
-    let x = store::free::give_back(words, store::links_of(h));
-    store::refresh::refresh(words, x, 0)
+    let x = pool::free::give_back(words, pool::links_of(h));
+    pool::refresh::refresh(words, x, 0)
 }
 
 // The positions that leave 0..=M where all move by d, up (left) or down, and by how much all move up modulo 2^64.

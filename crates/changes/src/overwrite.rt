@@ -7,8 +7,8 @@ ghost use Rattle.streams.specs.Feeds.{joined};
 ghost use Rattle.changes.specs.Overwriting.{MayOverwrite, Overwrites, Receives, Received, Gatherable, Gathers};
 
 use model::{Operation, Run};
+use pool::World;
 use run_lists::{RunList, Runs};
-use store::World;
 use streams::feed::Feed;
 
 // Gives a world the runs that come, whatever it held.
@@ -17,14 +17,14 @@ fn overwrite<I: Iterator<Item = Run> + Drop>(into: &mut [u64], h: World, runs: I
     requires fits { MayOverwrite I.next_gives into.old h runs }
     ensures { Overwrites I.next_gives into.old into.new h result runs }
 {
-    let k = store::free::give_back(into, store::links_of(h));
+    let k = pool::free::give_back(into, pool::links_of(h));
     let mut node = k.free;
     let mut n: u64 = 0;
     for r in runs {
         node = run_index::chains::lay_run(into, node, r);
         n += 1;
     }
-    store::refresh::link(into, k, n)
+    pool::refresh::link(into, k, n)
 }
 
 // The runs of a list, which are in order.

@@ -8,10 +8,10 @@ use Rattle.model.specs.Refusals.{output_short, ◌when◌, refusal, no_room}
 use Rattle.model.specs.Call.{done, refused, gave}
 use Rattle.model.specs.Model.{or_else}
 use Rattle.model.specs.Pools.{answers, after}
-use Rattle.store.specs.Layout.{capacity, worlds_of}
+use Rattle.pool.specs.Layout.{capacity, worlds_of}
 use Rattle.interval_bit_set.specs.Look.{Checked}
 use Rattle.interval_bit_set.proofs.Looking.{short-no}
-use Rattle.store.specs.Relink.{Tidied}
+use Rattle.pool.specs.Relink.{Tidied}
 use Rattle.interval_bit_set.proofs.Tidying.{pooled-tidied}
 use Rattle.interval_bit_set.specs.Met.{faults}
 use Rattle.frame.specs.Records.{calls_of}

@@ -8,8 +8,8 @@ use lib.ListN.{length-append}
 use Rattle.model.specs.Positions.{Positions}
 use Rattle.model.specs.Call.{Fed, PoolCall, at, Answer, refused, gave}
 use Rattle.model.specs.Pools.{PlainWorld, step, answers, after}
-use Rattle.store.specs.Layout.{capacity, worlds_of}
-use Rattle.store.specs.Soundness.{Sound}
+use Rattle.pool.specs.Layout.{capacity, worlds_of}
+use Rattle.pool.specs.Soundness.{Sound}
 use Rattle.codec.specs.Placed.{placed}
 use Rattle.codec.proofs.Placing.{placed-nil, placed-length, placed-placed, placed-front}
 use Rattle.model.specs.Bytes.{into_front}

@@ -7,8 +7,8 @@ use Rattle.model.specs.Refusals.{output_short, ◌when◌, refusal, no_room}
 use Rattle.model.specs.Model.{Plan, or_else}
 use Rattle.model.specs.Call.{PoolCall, done, Answer, refused, gave}
 use Rattle.model.specs.Pools.{PlainWorld, answers, after}
-use Rattle.store.specs.Layout.{capacity, worlds_of}
-use Rattle.store.specs.Free.{Pooled}
+use Rattle.pool.specs.Layout.{capacity, worlds_of}
+use Rattle.pool.specs.Free.{Pooled}
 use Rattle.interval_bit_set.specs.Met.{faults}
 use Rattle.frame.specs.Records.{calls_of}
 use Rattle.flat.specs.Records.{records_of}

@@ -3,8 +3,8 @@ use Rattle.std.specs.Prelude.{◌≡◌, ℕ, ◌*◌, ◌≤◌, List, length}
 use Rattle.model.specs.Bytes.{into_front}
 use Rattle.model.specs.Call.{Answer}
 use Rattle.model.specs.Pools.{answers, after}
-use Rattle.store.specs.Layout.{capacity, worlds_of}
-use Rattle.store.specs.Free.{Pooled}
+use Rattle.pool.specs.Layout.{capacity, worlds_of}
+use Rattle.pool.specs.Free.{Pooled}
 use Rattle.interval_bit_set.specs.Met.{Met}
 use Rattle.frame.specs.declared.entry.Entry.{Entry}
 use Rattle.flat.specs.declared.Reply.{Reply}

@@ -12,7 +12,7 @@ ghost use Rattle.frame.specs.Serving.{Serves, Playable, Plays};
 
 use crate::entry::{Entry, Kind};
 use flat::Reply;
-use interval_bit_set::pool::Pool;
+use interval_bit_set::checked::Pool;
 use model::between::Range;
 use model::{Listing, Rect, Refusal};
 
@@ -97,7 +97,7 @@ fn play(pool: &mut Pool<'_>, calls: &[u64], answers: &mut [u64])
 pub fn frame(words: &mut [u64], calls: &[u64], answers: &mut [u64]) -> Result<(), Refusal>
     ensures { Framed words.old calls.now answers.old (completed_answer result) words.new answers.new }
 {
-    let worn = interval_bit_set::pool::check(words)?;
+    let worn = interval_bit_set::checked::check(words)?;
     if answers.len() / 8 < calls.len() / 8 {
         return Err(Refusal::OutputShort);
     }

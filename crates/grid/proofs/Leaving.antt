@@ -9,9 +9,9 @@ use lib.Dec.{leb}
 use borrow.Author.Tests.{le-leb}
 use Rattle.model.specs.Numbers.{size}
 use Rattle.model.specs.Positions.{Positions, stretches}
-use Rattle.store.specs.declared.World.{World}
-use Rattle.store.specs.Layout.{held_in}
-use Rattle.store.specs.Soundness.{Share, Standing}
+use Rattle.pool.specs.declared.World.{World}
+use Rattle.pool.specs.Layout.{held_in}
+use Rattle.pool.specs.Soundness.{Footprint, Standing}
 use Rattle.changes.proofs.Fitting.{leb-like, logical-most}
 use Rattle.model.specs.declared.Rect.{Rect}
 use Rattle.model.specs.Grid.{cell, set_rect}
@@ -21,13 +21,13 @@ use Rattle.grid.proofs.Locality.{rows-most, rect-most, rect-leaves}
 
 -- ---- what the rectangle leaves
 -- far from the limit it fits
-pub rect-far : {w : List ℕ} {s : Share} {h : World} {limit : ℕ} (q : Rect) (v : Bool) → Standing w s h → h.offset < size → OnPlane q
+pub rect-far : {w : List ℕ} {s : Footprint} {h : World} {limit : ℕ} (q : Rect) (v : Bool) → Standing w s h → h.offset < size → OnPlane q
     → h.runs + 2 + (q.bottom - q.top) ≤ limit → true ≡ leb (stretches (set_rect q v (held_in w h))) limit
 rect-far {w} {s} {h} {limit} q v st o on far =
     sym (le-leb (stretches (set_rect q v (held_in w h))) limit (omega (arith, rect-most q v on (held_in w h), logical-most st o, on.rows)))
 
 -- and so do its rows on the way
-pub way-far : {w : List ℕ} {s : Share} {h : World} {limit : ℕ} (q : Rect) (v : Bool) → Standing w s h → h.offset < size → OnPlane q
+pub way-far : {w : List ℕ} {s : Footprint} {h : World} {limit : ℕ} (q : Rect) (v : Bool) → Standing w s h → h.offset < size → OnPlane q
     → h.runs + 2 + (q.bottom - q.top) ≤ limit → WayFits q v (held_in w h) limit
 way-far {w} {s} {h} {limit} q v st o on far r a b =
     let P : Positions = held_in w h in

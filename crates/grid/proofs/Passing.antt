@@ -21,11 +21,11 @@ use Rattle.model.specs.Positions.{Positions, set_range, stretches}
 use Rattle.model.proofs.Runs.{stretches-cong}
 use Rattle.model.proofs.After.{set-cong}
 use Rattle.run_index.specs.Cells.{cell_at}
-use Rattle.store.specs.declared.World.{World}
-use Rattle.store.specs.Layout.{held_in}
-use Rattle.store.specs.Soundness.{Chain, Share, Limited}
-use Rattle.store.proofs.Nodes.{still-then, still-same}
-use Rattle.store.proofs.Settling.{became-limited}
+use Rattle.pool.specs.declared.World.{World}
+use Rattle.pool.specs.Layout.{held_in}
+use Rattle.pool.specs.Soundness.{Chain, Footprint, Limited}
+use Rattle.pool.proofs.Nodes.{still-then, still-same}
+use Rattle.pool.proofs.Settling.{became-limited}
 use Rattle.changes.specs.Edits.{Makes, Edited}
 use Rattle.changes.proofs.Gaining.{cond-adds, cond-frees}
 use Rattle.model.specs.declared.Rect.{Rect}
@@ -46,7 +46,7 @@ chain-long w k (m ∷ ms) (n ∷ ns) c d =
     ap suc (chain-long w (cell_at w n).left ms ns (subst (λ (j : ℕ). Chain w (cell_at w j).left ms) e c.4) d.4)
 
 -- so a limit that some share allows every share does
-pub limited-by : {w : List ℕ} {s u : Share} {h : World} {limit most : ℕ} → Limited w s h limit → Limited w u h most → Limited w u h limit
+pub limited-by : {w : List ℕ} {s u : Footprint} {h : World} {limit most : ℕ} → Limited w s h limit → Limited w u h most → Limited w u h limit
 limited-by {w} {s} {u} {h} l m =
     let a = l.standing in
     let b = m.standing in
@@ -277,7 +277,7 @@ module _ (limit : ℕ) (q : Rect) (v : Bool) (P : Positions) (on : OnPlane q) (n
 
 -- ---- of a world
 -- one pass sets the rectangle, if no state on the way has too many runs
-pub passed-once : {w w' : List ℕ} {t : Share} {h k : World} {limit : ℕ} {q : Rect} {v : Bool} → OnPlane q → Limited w t h limit → WayFits q v (held_in w h) limit
+pub passed-once : {w w' : List ℕ} {t : Footprint} {h k : World} {limit : ℕ} {q : Rect} {v : Bool} → OnPlane q → Limited w t h limit → WayFits q v (held_in w h) limit
     → Passes w w' h k limit q v (q.bottom + 1) → Makes w w' h k (set_rect q v (held_in w h))
 passed-once {w} {w'} {t} {h} {k} {limit} {q} {v} on l fits f s most m _ =
     let one = f s (limited-by l m) in
@@ -287,7 +287,7 @@ passed-once {w} {w'} {t} {h} {k} {limit} {q} {v} on l fits f s most m _ =
     }
 
 -- and two do, if what it leaves fits
-pub passed-twice : {w w' w'' : List ℕ} {t : Share} {h k k' : World} {limit : ℕ} {q : Rect} {v : Bool} → OnPlane q → Narrow q → Limited w t h limit
+pub passed-twice : {w w' w'' : List ℕ} {t : Footprint} {h k k' : World} {limit : ℕ} {q : Rect} {v : Bool} → OnPlane q → Narrow q → Limited w t h limit
     → stretches (set_rect q v (held_in w h)) ≤ limit → Passes w w' h k limit q v (q.bottom + 1) → Passes w' w'' k k' limit q v (q.bottom + 1)
     → Makes w w'' h k' (set_rect q v (held_in w h))
 passed-twice {w} {w'} {w''} {t} {h} {k} {k'} {limit} {q} {v} on n l less f g s most m _ =

@@ -4,9 +4,9 @@ use Rattle.std.specs.Prelude.{ℕ, zero, suc, ◌+◌, ◌-◌, ◌≤◌, ◌<�
 use Rattle.model.specs.Numbers.{size}
 use Rattle.model.specs.Positions.{Positions, one_if, count, run_count, set_range, stretches}
 use Rattle.model.specs.Neighbours.{goes_on, held_below, held_above}
-use Rattle.store.specs.declared.World.{World}
-use Rattle.store.specs.Layout.{held_in}
-use Rattle.store.specs.Soundness.{Share, Still, Limited}
+use Rattle.pool.specs.declared.World.{World}
+use Rattle.pool.specs.Layout.{held_in}
+use Rattle.pool.specs.Soundness.{Footprint, SameFrame, Limited}
 use Rattle.model.specs.declared.Rect.{Rect}
 use Rattle.model.specs.Grid.{cell, within}
 
@@ -64,21 +64,21 @@ pass_rows limit q v zero P = P
 pass_rows limit q v (suc n) P = set_if limit (cell (q.top + n) q.left) (cell (q.top + n) q.right) v (pass_rows limit q v n P)
 
 -- the world h became k: a..b got the value v, where that leaves at most as many runs as the limit
-pub record RowSet (w w' : List ℕ) (s : Share) (h k : World) (limit a b : ℕ) (v : Bool) : Type 0 where
+pub record RowSet (w w' : List ℕ) (s : Footprint) (h k : World) (limit a b : ℕ) (v : Bool) : Type 0 where
   pub limited : Limited w' s k limit
-  pub still : Still w w' s
+  pub still : SameFrame w w' s
   pub holds : (x : ℕ) → x < size → held_in w' k x ≡ set_if limit a b v (held_in w h) x
 
 -- whatever share the world has
 abbrev pub SetsRow : List ℕ → List ℕ → World → World → ℕ → ℕ → ℕ → Bool → Type 0
-SetsRow w w' h k limit a b v = (s : Share) → Limited w s h limit → RowSet w w' s h k limit a b v
+SetsRow w w' h k limit a b v = (s : Footprint) → Limited w s h limit → RowSet w w' s h k limit a b v
 
 -- the world h became k: the rows before row r got the value v one after another, each where that left at most as many runs as the limit
-pub record Passed (w w' : List ℕ) (s : Share) (h k : World) (limit : ℕ) (q : Rect) (v : Bool) (r : ℕ) : Type 0 where
+pub record Passed (w w' : List ℕ) (s : Footprint) (h k : World) (limit : ℕ) (q : Rect) (v : Bool) (r : ℕ) : Type 0 where
   pub limited : Limited w' s k limit
-  pub still : Still w w' s
+  pub still : SameFrame w w' s
   pub holds : (x : ℕ) → x < size → held_in w' k x ≡ pass_rows limit q v (r - q.top) (held_in w h) x
 
 -- whatever share the world has
 abbrev pub Passes : List ℕ → List ℕ → World → World → ℕ → Rect → Bool → ℕ → Type 0
-Passes w w' h k limit q v r = (s : Share) → Limited w s h limit → Passed w w' s h k limit q v r
+Passes w w' h k limit q v r = (s : Footprint) → Limited w s h limit → Passed w w' s h k limit q v r

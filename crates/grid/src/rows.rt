@@ -3,8 +3,8 @@
 ghost use Rattle.std.specs.Prelude.{◌≡◌, ◌+◌, ◌-◌, ◌≤◌, ◌<◌, true, leb};
 ghost use Rattle.model.specs.Positions.{count, stretches};
 ghost use Rattle.model.specs.Range.{many};
-ghost use Rattle.store.specs.Layout.{held, held_in};
-ghost use Rattle.store.specs.Soundness.{Editable};
+ghost use Rattle.pool.specs.Layout.{held, held_in};
+ghost use Rattle.pool.specs.Soundness.{Editable};
 ghost use Rattle.changes.specs.Edits.{Makes, Edited};
 ghost use Rattle.model.specs.Grid.{cell, set_rect, count_rect};
 ghost use Rattle.grid.specs.Surveys.{OnPlane};
@@ -14,7 +14,7 @@ use crate::ROW;
 use changes::edit::Edit;
 use model::between::Interval;
 use model::{Logical, Rect};
-use store::{Set, World};
+use pool::{Set, World};
 
 // A rectangle of the plane.
 #[derive(Clone, Copy)]
@@ -125,8 +125,8 @@ impl Change {
         if self.is_far(h) {
             return true;
         }
-        let set = store::set_of(words, h);
-        let mut more = store::bounds::logical_runs(&set, h.runs);
+        let set = pool::set_of(words, h);
+        let mut more = pool::bounds::logical_runs(&set, h.runs);
         let mut less = self.limit;
         for r in self.area.q.top..=self.area.q.bottom {
             let row = self.area.cells(r, r);

@@ -1,6 +1,6 @@
 // Surveys of a grid: a square is halved by column, then by row, in turn, until each piece has one value.
 ghost use Rattle.std.specs.Prelude.{◌≡◌, ◌+◌, ◌^◌, ◌≤◌, ◌<◌, length};
-ghost use Rattle.store.specs.Layout.{held};
+ghost use Rattle.pool.specs.Layout.{held};
 ghost use Rattle.model.specs.Grid.{cell, one_valued, survey};
 ghost use Rattle.grid.specs.Surveys.{Listed, Surveyed};
 ghost use Rattle.grid.specs.Tiles.{whole_piece, square_pieces, half_pieces};
@@ -8,7 +8,7 @@ ghost use Rattle.grid.specs.Tiles.{whole_piece, square_pieces, half_pieces};
 use crate::ROW;
 use crate::tile::{Corner, Square, Tile};
 use model::Logical;
-use store::Set;
+use pool::Set;
 
 // The value of a cell.
 fn value_at(set: &Set<'_>, at: Corner) -> bool

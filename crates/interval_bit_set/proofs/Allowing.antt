@@ -3,7 +3,7 @@ use Rattle.std.proofs.Common.{◌≡◌, ℕ, zero, suc, ◌+◌, List, [], ◌�
 use Rattle.model.specs.Pools
 use Rattle.model.specs.Pools.{PlainWorld, world_of, claim, other_claims, holding_at, allowance_of}
 use Rattle.model.specs.Positions.{Positions}
-use Rattle.store.specs.Layout.{capacity_of, capacity, allowance, worlds_of}
+use Rattle.pool.specs.Layout.{capacity_of, capacity, allowance, worlds_of}
 
 -- what the others claim
 pub others-holding : (i : ℕ) (P : Positions) (ws : List PlainWorld) → other_claims (holding_at i P ws) i ≡ other_claims ws i

@@ -26,13 +26,13 @@ use Rattle.model.specs.Refusals.{before_capacity, Condition, ◌when◌, first_g
 use Rattle.model.specs.Refusals
 use Rattle.model.specs.Call.{Fed, holding, Call, Result, done, number, refused, gave}
 use Rattle.model.specs.Model.{Effect, plan, settle, look, or_else, serve}
-use Rattle.store.specs.declared.World.{World}
-use Rattle.store.specs.Layout.{capacity, allowance, held_in, held_by, plain_at, worlds_of}
-use Rattle.store.specs.Soundness.{share_of}
-use Rattle.store.specs.Settle.{Settled, Became, Openable, Opened, Closing, Closes}
-use Rattle.store.proofs.Parts.{lent, back, back-same}
-use Rattle.store.proofs.WorldLists.{opened-world}
-use Rattle.store.proofs.Worlds.{held-allowed}
+use Rattle.pool.specs.declared.World.{World}
+use Rattle.pool.specs.Layout.{capacity, allowance, held_in, held_by, plain_at, worlds_of}
+use Rattle.pool.specs.Soundness.{footprint_of}
+use Rattle.pool.specs.Settle.{Settled, Became, Openable, Opened, Closing, Closes}
+use Rattle.pool.proofs.Parts.{lent, back, back-same}
+use Rattle.pool.proofs.WorldLists.{opened-world}
+use Rattle.pool.proofs.Worlds.{held-allowed}
 use Rattle.changes.specs.Edits.{Makes, Edited, Fitted, Moves}
 use Rattle.changes.proofs.Shifted.{shift-few}
 use Rattle.interval_bit_set.specs.Met.{Site, fed_at, full_at, outcome_of, Met, Readable}
@@ -178,8 +178,8 @@ up_to Q e l = subst (λ n. stretches Q ≤ n) e l
 
 module _ {w : List ℕ} {i : ℕ} {h : World} (R : Readable w i) (op : Opened w i h) where
   -- a shift adds no run
-  pub move-became : {ys : List ℕ} {k : World} {Q : Positions} → Moves (lent w) ys h k Q → Became (lent w) ys (share_of w i) k Q
-  move-became mv = mv (share_of w i) (allowance w i) (lent-limited op)
+  pub move-became : {ys : List ℕ} {k : World} {Q : Positions} → Moves (lent w) ys h k Q → Became (lent w) ys (footprint_of w i) k Q
+  move-became mv = mv (footprint_of w i) (allowance w i) (lent-limited op)
 
   pub move-few : (d : ℕ) (left : Bool) → d < size → stretches (shift_by d left (held_in (lent w) h)) ≤ allowance w i
   move-few d left l = omega (arith, shift-few d left (held_in (lent w) h) l, (lent-limited op).fits)
@@ -190,8 +190,8 @@ module _ {w : List ℕ} {i : ℕ} {h : World} (R : Readable w i) (op : Opened w 
 
   -- the positions became Q, if these have no more runs than the limit
   module _ {limit : ℕ} (el : limit ≡ allowance w i) {Q : Positions} where
-    made : {ys : List ℕ} {k : World} → stretches Q ≤ limit → Makes (lent w) ys h k Q → Became (lent w) ys (share_of w i) k Q
-    made l mk = mk (share_of w i) (allowance w i) (lent-limited op) (up_to Q el l)
+    made : {ys : List ℕ} {k : World} → stretches Q ≤ limit → Makes (lent w) ys h k Q → Became (lent w) ys (footprint_of w i) k Q
+    made l mk = mk (footprint_of w i) (allowance w i) (lent-limited op) (up_to Q el l)
 
     -- by a change that counts
     module _ (ys : List ℕ) (e : Option Edit) (ed : Edited (lent w) ys h limit Q e) {k : World} {n : Count} (q : e ≡ changed_to k n) where

@@ -5,8 +5,8 @@ use Rattle.model.specs.declared.Operation.TheVariants.{Xor}
 use Rattle.model.specs.Positions.{combined, stretches, same}
 use Rattle.model.specs.Call.{Call, value}
 use Rattle.model.specs.Model.{positions_of}
-use Rattle.store.specs.Layout.{held_from, held_by}
-use Rattle.store.proofs.Parts.{lent}
+use Rattle.pool.specs.Layout.{held_from, held_by}
+use Rattle.pool.proofs.Parts.{lent}
 use Rattle.streams.specs.declared.source.View.{View}
 use Rattle.interval_bit_set.specs.Met.{site, fed_of, Readable}
 use Rattle.interval_bit_set.specs.Joined.{ViewOf}

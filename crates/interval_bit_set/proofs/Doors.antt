@@ -8,12 +8,12 @@ use lib.ListN.{length}
 use Rattle.model.specs.Numbers.{most_worlds}
 use Rattle.model.specs.Positions.{Positions, stretches}
 use Rattle.run_index.specs.Cells.{cell_at}
-use Rattle.store.specs.declared.World.{World}
-use Rattle.store.specs.Layout.{nodes, allowance, held_in, held_by}
-use Rattle.store.specs.Soundness.{Share, Still, Stands, Limited, Editable, share_of}
-use Rattle.store.specs.Settle.{Settled, Became, Openable, Opened, Closing, Closes}
-use Rattle.store.proofs.Nodes.{sized-length}
-use Rattle.store.proofs.Parts.{lent, back, lent-nodes, back-nodes, back-front, back_long, cells-before}
+use Rattle.pool.specs.declared.World.{World}
+use Rattle.pool.specs.Layout.{nodes, allowance, held_in, held_by}
+use Rattle.pool.specs.Soundness.{Footprint, SameFrame, Stands, Limited, Editable, footprint_of}
+use Rattle.pool.specs.Settle.{Settled, Became, Openable, Opened, Closing, Closes}
+use Rattle.pool.proofs.Nodes.{sized-length}
+use Rattle.pool.proofs.Parts.{lent, back, lent-nodes, back-nodes, back-front, back_long, cells-before}
 use Rattle.changes.specs.Edits.{Movable}
 
 -- the nodes are there to be lent
@@ -27,20 +27,20 @@ module _ {w : List ℕ} {i : ℕ} {h : World} (op : Opened w i h) where
   lent-held = ap (λ v. held_in v h) (lent-nodes w) ∙ op.held
 
   -- it is within its allowance
-  pub lent-limited : Limited (lent w) (share_of w i) h (allowance w i)
-  lent-limited = subst (λ v. Limited v (share_of w i) h (allowance w i)) (sym (lent-nodes w)) op.limited
+  pub lent-limited : Limited (lent w) (footprint_of w i) h (allowance w i)
+  lent-limited = subst (λ v. Limited v (footprint_of w i) h (allowance w i)) (sym (lent-nodes w)) op.limited
 
   -- so it stands
   pub lent-stands : Stands (lent w) h
-  lent-stands = (share_of w i, lent-limited.standing)
+  lent-stands = (footprint_of w i, lent-limited.standing)
 
   -- it may be edited up to the allowance
   pub lent-editable : {limit : ℕ} → limit ≡ allowance w i → Editable (lent w) h limit
-  lent-editable e = (share_of w i, subst (Limited (lent w) (share_of w i) h) (sym e) lent-limited)
+  lent-editable e = (footprint_of w i, subst (Limited (lent w) (footprint_of w i) h) (sym e) lent-limited)
 
   -- and moved
   pub lent-movable : Movable (lent w) h
-  lent-movable = (share_of w i, allowance w i, lent-limited)
+  lent-movable = (footprint_of w i, allowance w i, lent-limited)
 
 -- ---- the part comes back as ys
 -- nothing else has changed, if the words before the first node are as they were
@@ -48,17 +48,17 @@ pub back-before : (w ys : List ℕ) → 128 ≤ length w → cell_at ys 0 ≡ ce
 back-before w ys le e = cells-before w (back w ys) (back-front w ys le) (ap (λ v. cell_at v 0) (back-nodes w ys le) ∙ e)
 
 -- no world has the words before the first node
-pub still_before : {v ys : List ℕ} {s : Share} → Still v ys s → cell_at ys 0 ≡ cell_at v 0
+pub still_before : {v ys : List ℕ} {s : Footprint} → SameFrame v ys s → cell_at ys 0 ≡ cell_at v 0
 still_before st = st.cells 0 (λ p. absurd (omega arith))
 
-module _ {w : List ℕ} {i : ℕ} (o : Openable w i) {ys : List ℕ} {k : World} {Q : Positions} (be : Became (lent w) ys (share_of w i) k Q) where
+module _ {w : List ℕ} {i : ℕ} (o : Openable w i) {ys : List ℕ} {k : World} {Q : Positions} (be : Became (lent w) ys (footprint_of w i) k Q) where
   -- the world there has the number of the one that was opened
   same_number : k.tag ≡ i
   same_number = be.shows.standing.kept.tagged
 
   -- the same of all nodes
-  became-nodes : Became (nodes w) (nodes (back w ys)) (share_of w i) k Q
-  became-nodes = subst₂ (λ a b. Became a b (share_of w i) k Q) (lent-nodes w) (sym (back-nodes w ys (nodes-there o))) be
+  became-nodes : Became (nodes w) (nodes (back w ys)) (footprint_of w i) k Q
+  became-nodes = subst₂ (λ a b. Became a b (footprint_of w i) k Q) (lent-nodes w) (sym (back-nodes w ys (nodes-there o))) be
 
   module _ (few : stretches Q ≤ allowance w i) where
     -- so it can be closed
@@ -67,7 +67,7 @@ module _ {w : List ℕ} {i : ℕ} (o : Openable w i) {ys : List ℕ} {k : World}
       openable = subst (Openable w) (sym same_number) o;
       before = back-before w ys (nodes-there o) (still_before be.still ∙ ap (λ v. cell_at v 0) (lent-nodes w));
       long = back_long w ys (nodes-there o) be.still.long;
-      became = subst (λ j. Became (nodes w) (nodes (back w ys)) (share_of w j) k Q) (sym same_number) became-nodes;
+      became = subst (λ j. Became (nodes w) (nodes (back w ys)) (footprint_of w j) k Q) (sym same_number) became-nodes;
       few = subst (λ j. stretches Q ≤ allowance w j) (sym same_number) few;
     }
 

@@ -7,12 +7,12 @@ use Rattle.model.specs.Positions.{empty, stretches}
 use Rattle.model.proofs.Calc.{mem-empty}
 use Rattle.model.specs.Refusals.{run_order, ◌when◌, refusal, ordered_from, disordered}
 use Rattle.model.specs.Call.{Call, done, gave}
-use Rattle.store.specs.declared.World.{World}
-use Rattle.store.specs.Layout.{allowance}
-use Rattle.store.specs.Soundness.{share_of}
-use Rattle.store.specs.Settle.{Became, Opened, Closing, Closes}
-use Rattle.store.proofs.Emptying.{empty-stretches}
-use Rattle.store.proofs.Parts.{lent, back}
+use Rattle.pool.specs.declared.World.{World}
+use Rattle.pool.specs.Layout.{allowance}
+use Rattle.pool.specs.Soundness.{footprint_of}
+use Rattle.pool.specs.Settle.{Became, Opened, Closing, Closes}
+use Rattle.pool.proofs.Emptying.{empty-stretches}
+use Rattle.pool.proofs.Parts.{lent, back}
 use Rattle.changes.specs.Edits.{Empties}
 use Rattle.interval_bit_set.specs.Met.{Met, Readable}
 use Rattle.interval_bit_set.proofs.Doors.{lent-limited, lent-closing, lent-settled}
@@ -25,8 +25,8 @@ unfolding disordered ordered_from
 none-ordered = refl
 
 module _ {w : List ℕ} {i : ℕ} {h : World} (R : Readable w i) (op : Opened w i h) (ys : List ℕ) {k : World} (em : Empties (lent w) ys h k) where
-  became : Became (lent w) ys (share_of w i) k empty
-  became = em (share_of w i) (lent-limited op).standing
+  became : Became (lent w) ys (footprint_of w i) k empty
+  became = em (footprint_of w i) (lent-limited op).standing
 
   few : stretches empty ≤ allowance w i
   few = omega (arith, empty-stretches)

@@ -18,13 +18,13 @@ use Rattle.run_index.specs.Cells.{cell_at}
 use Rattle.run_index.specs.declared.Node.{Node}
 use Rattle.run_index.specs.Tree.{node, inorder, tree_from}
 use Rattle.run_index.specs.Shape.{inserted}
-use Rattle.store.specs.declared.World.{World}
-use Rattle.store.specs.declared.layout.Record.{Record}
-use Rattle.store.specs.Layout.{record_at, world_at, nodes, Headed, highest, tree_at, allowance}
-use Rattle.store.specs.Settle.{Closing, Opened}
-use Rattle.store.specs.Soundness.{Limited, share_of}
-use Rattle.store.proofs.Closing.{closing-nodes}
-use Rattle.store.proofs.Parts.{lent, back, lent-nodes, back-nodes}
+use Rattle.pool.specs.declared.World.{World}
+use Rattle.pool.specs.declared.layout.Record.{Record}
+use Rattle.pool.specs.Layout.{record_at, world_at, nodes, Headed, highest, tree_at, allowance}
+use Rattle.pool.specs.Settle.{Closing, Opened}
+use Rattle.pool.specs.Soundness.{Limited, footprint_of}
+use Rattle.pool.proofs.Closing.{closing-nodes}
+use Rattle.pool.proofs.Parts.{lent, back, lent-nodes, back-nodes}
 use Rattle.interval_bit_set.specs.Grown.{shape, Unturned, Clear, PutIn}
 use Rattle.interval_bit_set.specs.Met.{Readable}
 use Rattle.interval_bit_set.proofs.Changing.{edit-closing, edit-told}
@@ -107,7 +107,7 @@ module _ {w w' : List ℕ} {i limit : ℕ} {h k : World} {n : Count} {l u : Boun
       → PutIn w i l u v w'
   edit-grows R op el e ed gr q al hd =
       let t = edit-told R op el ys e ed q in
-      let within = subst (Limited (lent w) (share_of w i) h) (sym el) (lent-limited op) in
-      let be = t.1 (share_of w i) limit within t.0 in
+      let within = subst (Limited (lent w) (footprint_of w i) h) (sym el) (lent-limited op) in
+      let be = t.1 (footprint_of w i) limit within t.0 in
       world-grows op (back-nodes w ys (nodes-there R.openable)) (edit-closing R op el ys e ed q) hd be.shows.standing.kept.tagged al
       (subst (GrowsBy (lent w) ys h r.first.0 r.last.0 v) q gr)

@@ -17,7 +17,7 @@ use Rattle.model.specs.Bytes.{encode, map_of, into_front}
 use Rattle.model.specs.Refusals.{window, Condition, ◌when◌, bad_window}
 use Rattle.model.specs.declared.Refusal.TheVariants.{WorldUnopened}
 use Rattle.model.specs.Model.{positions_of, plan, writing, settle, serve}
-use Rattle.store.specs.Layout.{opened_at}
+use Rattle.pool.specs.Layout.{opened_at}
 use Rattle.model.specs.Call.{Call, Answer, refused, gave, written}
 use Rattle.interval_bit_set.specs.Met.{Site, faults, fed_of, fed_at, full_at, outcome_of, Met}
 use Rattle.interval_bit_set.specs.Out.{WritesOut, Unwritten}

@@ -15,11 +15,11 @@ use Rattle.model.proofs.Finds.{count_runs}
 use Rattle.model.specs.RunList.{Canon}
 use Rattle.model.proofs.RunList.{widths, mem-in, mem-under, mem-above}
 use Rattle.model.specs.Model.{positions_of}
-use Rattle.store.specs.Places.{physical_of, logical_of}
-use Rattle.store.specs.Layout.{turned, physical_runs, held_from, held_by}
-use Rattle.store.proofs.Turn.{turned-at}
-use Rattle.store.proofs.Ends.{empty-mem}
-use Rattle.store.proofs.Parts.{lent, lent-nodes}
+use Rattle.pool.specs.Places.{physical_of, logical_of}
+use Rattle.pool.specs.Layout.{turned, physical_runs, held_from, held_by}
+use Rattle.pool.proofs.Turn.{turned-at}
+use Rattle.pool.proofs.Ends.{empty-mem}
+use Rattle.pool.proofs.Parts.{lent, lent-nodes}
 use Rattle.changes.proofs.Shifted.{turned-further}
 use Rattle.streams.specs.declared.source.View.{View}
 use Rattle.streams.specs.Reading.{Rooted}

@@ -20,11 +20,11 @@ use Rattle.model.specs.Refusals.{refusal, earns_length, earns_unsound, earns_uno
 use Rattle.model.specs.Call.{Fed, wrong_length, unsound, unopened, Call, Result, Answer, refused, gave}
 use Rattle.model.specs.Model.{Plan, positions_of, plan, any_earns, look, settle, or_else, room, left_by, serve}
 use Rattle.model.specs.Pools.{PlainWorld, world_of, fed_by}
-use Rattle.store.specs.Layout.{capacity, opened_at, worlds_of}
-use Rattle.store.specs.Soundness.{Sound}
-use Rattle.store.specs.Settle.{Openable}
-use Rattle.store.specs.Decision.{sound_b, worn, checked}
-use Rattle.store.proofs.Whole.{sound_b-yes, sound_b-no}
+use Rattle.pool.specs.Layout.{capacity, opened_at, worlds_of}
+use Rattle.pool.specs.Soundness.{Sound}
+use Rattle.pool.specs.Settle.{Openable}
+use Rattle.pool.specs.Decision.{sound_b, worn, checked}
+use Rattle.pool.proofs.Whole.{sound_b-yes, sound_b-no}
 use Rattle.interval_bit_set.specs.Met.{Site, site, short, any_is, faults, fed_of, fed_at, full_at, outcome_of, Met, Readable}
 use Rattle.interval_bit_set.specs.Look.{Checked, AllChecked, Checks, Sounds}
 use Rattle.interval_bit_set.proofs.Passing.{handed-on, met-on}

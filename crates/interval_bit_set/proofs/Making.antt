@@ -9,8 +9,8 @@ use Rattle.model.specs.declared.Limits.{Limits}
 use Rattle.model.specs.Refusals.{store_length, world_limits, ◌when◌, refusal, bad_limits}
 use Rattle.model.specs.Call.{done, refused, gave}
 use Rattle.model.specs.Pools.{empty_worlds, settle_make, make_by}
-use Rattle.store.specs.Layout.{capacity, worlds_of}
-use Rattle.store.specs.Free.{Emptied}
+use Rattle.pool.specs.Layout.{capacity, worlds_of}
+use Rattle.pool.specs.Free.{Emptied}
 use Rattle.interval_bit_set.specs.Met.{made_of, Made}
 
 -- words of a pool's length, by whether the limits are refused

@@ -3,10 +3,10 @@ use Rattle.std.proofs.Common.{◌≡◌, ℕ, ◌+◌, ◌/◌, false, eqb, List
 use borrow.Author.Tests.{not-false}
 use Rattle.model.specs.Refusals.{bad_window, bad_map}
 use Rattle.maps.specs.Window.{MapOfWindow}
-use Rattle.store.specs.declared.World.{World}
-use Rattle.store.specs.Soundness.{Apart, share_of}
-use Rattle.store.specs.Settle.{Opened}
-use Rattle.store.proofs.Parts.{lent, lent-nodes}
+use Rattle.pool.specs.declared.World.{World}
+use Rattle.pool.specs.Soundness.{Apart, footprint_of}
+use Rattle.pool.specs.Settle.{Opened}
+use Rattle.pool.proofs.Parts.{lent, lent-nodes}
 use Rattle.maps.specs.Painted.{Scannable}
 use Rattle.interval_bit_set.proofs.Doors.{lent-limited}
 use Rattle.interval_bit_set.proofs.Windows.{fitting}
@@ -28,6 +28,6 @@ module _ {w : List ℕ} {i : ℕ} {h : World} (op : Opened w i h) where
   -- its nodes are told by their tag
   pub lent-scannable : Scannable (lent w) h
   lent-scannable = (
-    share_of w i,
-    record { standing = (lent-limited op).standing; apart = subst (λ v. Apart v (share_of w i)) (sym (lent-nodes w)) op.apart },
+    footprint_of w i,
+    record { standing = (lent-limited op).standing; apart = subst (λ v. Apart v (footprint_of w i)) (sym (lent-nodes w)) op.apart },
   )

@@ -9,7 +9,7 @@ use Rattle.model.specs.Refusals.{store_length, tree_height, output_short, Condit
 use Rattle.model.specs.Call.{deepest, Result, written, gave}
 use Rattle.model.specs.Pools.{settle_measured, measure_by}
 use Rattle.model.proofs.Deepest.{deepest-words}
-use Rattle.store.specs.Layout.{capacity, worlds_of}
+use Rattle.pool.specs.Layout.{capacity, worlds_of}
 use Rattle.interval_bit_set.specs.Met.{measured_of}
 use Rattle.interval_bit_set.specs.Out.{WritesMeasured}
 

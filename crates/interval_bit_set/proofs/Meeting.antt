@@ -13,15 +13,15 @@ use Rattle.model.specs.Refusals.{Condition, refusal}
 use Rattle.model.specs.Call.{Fed, wrong_length, unsound, unopened, Call, Result, Answer, refused, gave}
 use Rattle.model.specs.Model.{Effect, asking, plan, Outcome, settle, look, or_else, serve}
 use Rattle.model.specs.Pools.{world_of, fed_by}
-use Rattle.store.specs.declared.World.{World}
-use Rattle.store.specs.declared.Set.{Set}
-use Rattle.store.specs.Layout.{capacity, opened_at, held, held_in, held_by, worlds_of}
-use Rattle.store.specs.Soundness.{Sound}
-use Rattle.store.specs.Decision.{sound_b}
-use Rattle.store.specs.Settle.{Settled, Openable, Opened}
-use Rattle.store.proofs.Parts.{lent}
-use Rattle.store.proofs.WorldLists.{opened-world, unopened-world}
-use Rattle.store.proofs.Whole.{sound_b-no}
+use Rattle.pool.specs.declared.World.{World}
+use Rattle.pool.specs.declared.Set.{Set}
+use Rattle.pool.specs.Layout.{capacity, opened_at, held, held_in, held_by, worlds_of}
+use Rattle.pool.specs.Soundness.{Sound}
+use Rattle.pool.specs.Decision.{sound_b}
+use Rattle.pool.specs.Settle.{Settled, Openable, Opened}
+use Rattle.pool.proofs.Parts.{lent}
+use Rattle.pool.proofs.WorldLists.{opened-world, unopened-world}
+use Rattle.pool.proofs.Whole.{sound_b-no}
 use Rattle.interval_bit_set.specs.Met.{Site, fed_of, fed_at, full_at, outcome_of, Leaves, Met, Readable}
 use Rattle.interval_bit_set.proofs.Doors.{lent-held}
 

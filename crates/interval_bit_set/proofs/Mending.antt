@@ -17,9 +17,9 @@ use Rattle.model.specs.Call.{Call, mended}
 use Rattle.model.proofs.Runs.{held_runs-canon, mem-held_runs, stretches-cong}
 use Rattle.model.proofs.Codec.{encode-length, edition_of-encode, runs_due-encode, decode-length, decode-words, canon-ordered, intact-encode}
 use Rattle.model.proofs.RoundTrips.{unrefused-intact, held-read}
-use Rattle.store.specs.Layout.{allowance}
-use Rattle.store.specs.Settle.{Settled, Openable}
-use Rattle.store.proofs.Worlds.{allowance-is, sound-length}
+use Rattle.pool.specs.Layout.{allowance}
+use Rattle.pool.specs.Settle.{Settled, Openable}
+use Rattle.pool.proofs.Worlds.{allowance-is, sound-length}
 use Rattle.codec.specs.Parsed.{Shaped, Acceptable}
 use Rattle.codec.proofs.Telling.{shaped-runs, told-runs, accepted-stretches}
 use Rattle.union.specs.Mended.{Due, United}

@@ -16,11 +16,11 @@ use Rattle.model.specs.Refusals.{Condition, refusal}
 use Rattle.model.specs.Call.{Fed, Call, done}
 use Rattle.model.specs.Answers.{completed_answer}
 use Rattle.model.specs.Model.{plan, overwriting, look}
-use Rattle.store.specs.declared.World.{World}
-use Rattle.store.specs.Layout.{allowance}
-use Rattle.store.specs.Soundness.{share_of}
-use Rattle.store.specs.Settle.{Settled, Became, Opened, Closing, Closes}
-use Rattle.store.proofs.Parts.{lent, back}
+use Rattle.pool.specs.declared.World.{World}
+use Rattle.pool.specs.Layout.{allowance}
+use Rattle.pool.specs.Soundness.{footprint_of}
+use Rattle.pool.specs.Settle.{Settled, Became, Opened, Closing, Closes}
+use Rattle.pool.proofs.Parts.{lent, back}
 use Rattle.changes.specs.Overwriting.{Roomy, Gathers}
 use Rattle.interval_bit_set.specs.Met.{Site, fed_of, fed_at, Met, Readable}
 use Rattle.interval_bit_set.specs.Joined.{Carried}
@@ -47,12 +47,12 @@ module _ (n s C : ℕ) {r : Bool} (tested : r ≡ leb n s) (told : s ≡ C) wher
 -- ---- Q is gathered into an open world
 module _ {w : List ℕ} {i : ℕ} {h : World} {Q : Positions} (R : Readable w i) (few : stretches Q ≤ allowance w i) (op : Opened w i h) where
   -- it has nodes for the runs
-  pub gather-roomy : Roomy (lent w) (share_of w i) h Q
+  pub gather-roomy : Roomy (lent w) (footprint_of w i) h Q
   gather-roomy = let l = lent-limited op in record { standing = l.standing; enough = omega (arith, few, l.enough) }
 
   module _ (ys : List ℕ) {k : World} (G : Gathers (lent w) ys h k Q) where
-    gathered : Became (lent w) ys (share_of w i) k Q
-    gathered = G (share_of w i) gather-roomy
+    gathered : Became (lent w) ys (footprint_of w i) k Q
+    gathered = G (footprint_of w i) gather-roomy
 
     -- so it can be closed
     pub gather-closing : Closing w (back w ys) k Q

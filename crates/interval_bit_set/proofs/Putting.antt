@@ -19,10 +19,10 @@ use Rattle.model.proofs.Codec.{encode-length}
 use Rattle.model.specs.Refusals.{off_plane, window, output_short, Condition, ◌when◌, refusal, bad_square, bad_window, no_room}
 use Rattle.model.specs.Call.{Call, written, gave}
 use Rattle.model.specs.Model.{plan, writing, settle, serve}
-use Rattle.store.specs.Layout.{held_in, held_by}
-use Rattle.store.specs.declared.World.{World}
-use Rattle.store.specs.Settle.{Opened}
-use Rattle.store.proofs.Parts.{lent}
+use Rattle.pool.specs.Layout.{held_in, held_by}
+use Rattle.pool.specs.declared.World.{World}
+use Rattle.pool.specs.Settle.{Opened}
+use Rattle.pool.proofs.Parts.{lent}
 use Rattle.interval_bit_set.specs.Met.{Site, fed_at, full_at, outcome_of, Met, Readable}
 use Rattle.interval_bit_set.specs.Out.{WritesOut}
 use Rattle.interval_bit_set.proofs.Doors.{lent-held, lent-limited}

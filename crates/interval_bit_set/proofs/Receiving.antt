@@ -11,11 +11,11 @@ use Rattle.model.specs.Bytes.{runs_told}
 use Rattle.model.specs.RunList.{AllWords}
 use Rattle.model.proofs.Codec.{decode-words}
 use Rattle.model.specs.Refusals.{run_order, before_capacity, from_capacity, ◌when◌, first_given, refusal, ordered_from, disordered, set_conditions}
-use Rattle.store.specs.declared.World.{World}
-use Rattle.store.specs.Layout.{allowance}
-use Rattle.store.specs.Soundness.{share_of}
-use Rattle.store.specs.Settle.{Settled, Opened, Closing, Closes}
-use Rattle.store.proofs.Parts.{lent, back}
+use Rattle.pool.specs.declared.World.{World}
+use Rattle.pool.specs.Layout.{allowance}
+use Rattle.pool.specs.Soundness.{footprint_of}
+use Rattle.pool.specs.Settle.{Settled, Opened, Closing, Closes}
+use Rattle.pool.proofs.Parts.{lent, back}
 use Rattle.changes.specs.Overwriting.{Gathers}
 use Rattle.codec.specs.Parsed.{Acceptable}
 use Rattle.changes.specs.Overwriting.{Receives, Received}
@@ -62,7 +62,7 @@ module _ {w : List ℕ} {i : ℕ} {h : World} {n limit : ℕ} {rs : List Run} (R
 
   -- and has the nodes
   pub receive-ready : Receives (lent w) h n
-  receive-ready = let r = gather-roomy R receive-few op in (share_of w i, r.standing, omega (arith, many.are, r.enough))
+  receive-ready = let r = gather-roomy R receive-few op in (footprint_of w i, r.standing, omega (arith, many.are, r.enough))
 
   module _ (ys : List ℕ) {k : World} (got : Received (lent w) ys h n k rs) where
     -- they are gathered into it

@@ -22,11 +22,11 @@ use Rattle.model.specs.Model.{Effect, Plan, positions_of, plan, Outcome, settle,
 use Rattle.model.specs.Pools.{PlainWorld, world_of, fed_by, full, with_positions, holding_at, serve_at, empty_worlds, PoolOutcome, settle_make, make_by, step}
 use Rattle.model.specs.Pools.{settle_measured, words_due, measure_conditions, measure_by}
 use Rattle.model.proofs.Pools.{holding-fed}
-use Rattle.store.specs.Layout.{capacity_of, capacity, opened_at, floor_at, ceiling_at, held_by, plain_at, worlds_from, worlds_of}
-use Rattle.store.specs.Soundness.{Sound}
-use Rattle.store.specs.Settle.{Settled}
-use Rattle.store.proofs.Turn.{pool-past}
-use Rattle.store.proofs.WorldLists.{worlds-but, opened-world, unopened-world}
+use Rattle.pool.specs.Layout.{capacity_of, capacity, opened_at, floor_at, ceiling_at, held_by, plain_at, worlds_from, worlds_of}
+use Rattle.pool.specs.Soundness.{Sound}
+use Rattle.pool.specs.Settle.{Settled}
+use Rattle.pool.proofs.Turn.{pool-past}
+use Rattle.pool.proofs.WorldLists.{worlds-but, opened-world, unopened-world}
 use Rattle.interval_bit_set.specs.Met.{Site, fed_at, full_at, outcome_of, Leaves, Met, made_of, MakeLeaves, Made, measured_of, Measured}
 use Rattle.interval_bit_set.proofs.Looking.{shut-refused}
 use Rattle.interval_bit_set.proofs.Meeting.{fed-sound}

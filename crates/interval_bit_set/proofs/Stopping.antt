@@ -7,7 +7,7 @@ use Rattle.model.specs.Spawning.{none_refused, places_told}
 use Rattle.model.specs.Refusals.{store_length, not_refused, output_short, Condition, ◌when◌, refusal, no_room}
 use Rattle.model.specs.Call.{why_full, Result, written, gave}
 use Rattle.model.specs.Pools.{settle_measured, stopped, measure_by}
-use Rattle.store.specs.Layout.{capacity, worlds_of}
+use Rattle.pool.specs.Layout.{capacity, worlds_of}
 use Rattle.interval_bit_set.specs.Met.{measured_of}
 use Rattle.interval_bit_set.specs.Out.{WritesMeasured}
 

@@ -9,14 +9,14 @@ use Rattle.model.specs.Positions.{Positions}
 use Rattle.model.specs.Call.{Call, Result, gave}
 use Rattle.model.specs.Answers.{OrRefusal, answer_by}
 use Rattle.model.specs.Pools.{PlainWorld}
-use Rattle.store.specs.Layout.{opened_at, floor_at, ceiling_at, held_by, plain_at, worlds_from, worlds_of}
-use Rattle.store.specs.Free.{Pooled}
-use Rattle.store.specs.Settle.{Settled}
-use Rattle.store.proofs.WorldLists.{worlds-same}
+use Rattle.pool.specs.Layout.{opened_at, floor_at, ceiling_at, held_by, plain_at, worlds_from, worlds_of}
+use Rattle.pool.specs.Free.{Pooled}
+use Rattle.pool.specs.Settle.{Settled}
+use Rattle.pool.proofs.WorldLists.{worlds-same}
 use Rattle.interval_bit_set.specs.Met.{Site, Met}
 use Rattle.interval_bit_set.specs.Look.{Checked}
 use Rattle.interval_bit_set.proofs.Looking.{gave-opened}
-use Rattle.store.specs.Relink.{Tidied}
+use Rattle.pool.specs.Relink.{Tidied}
 use Rattle.interval_bit_set.specs.Tidy.{TidiesIf, Ended}
 
 -- what settled before stays so

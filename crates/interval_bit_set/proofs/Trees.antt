@@ -16,17 +16,17 @@ use Rattle.model.proofs.Numbers.{split}
 use Rattle.run_index.specs.Cells.{cell_at}
 use Rattle.run_index.specs.Tree.{count, At}
 use Rattle.run_index.proofs.Heap.{frame}
-use Rattle.store.specs.declared.layout.Record.{Record}
-use Rattle.store.specs.Layout.{opened_at, record_at, nodes, node_count, world_at, tree_at}
-use Rattle.store.specs.Soundness.{Planted, Sound}
-use Rattle.store.proofs.Orders.{node_in}
-use Rattle.store.proofs.Parts.{nodes-long}
-use Rattle.store.proofs.Reached.{tree-reached}
-use Rattle.store.proofs.Sharing.{tree-planted}
+use Rattle.pool.specs.declared.layout.Record.{Record}
+use Rattle.pool.specs.Layout.{opened_at, record_at, nodes, node_count, world_at, tree_at}
+use Rattle.pool.specs.Soundness.{Planted, Sound}
+use Rattle.pool.proofs.Orders.{node_in}
+use Rattle.pool.proofs.Parts.{nodes-long}
+use Rattle.pool.proofs.Reached.{tree-reached}
+use Rattle.pool.proofs.Sharing.{tree-planted}
 use Rattle.interval_bit_set.specs.Grown.{shape, Grows}
 use Rattle.interval_bit_set.specs.Met.{Site, Met}
-use Rattle.store.specs.Relink.{InOrder}
-use Rattle.store.proofs.Threading.{lows-high}
+use Rattle.pool.specs.Relink.{InOrder}
+use Rattle.pool.proofs.Threading.{lows-high}
 use Rattle.interval_bit_set.specs.Look.{Checked}
 use Rattle.interval_bit_set.proofs.Looking.{gave-opened}
 use Rattle.interval_bit_set.specs.Tidy.{Tidies, TidiesIf, Ended}

@@ -7,7 +7,7 @@ use Rattle.model.specs.Range.{first_allowed, past_allowed, extent}
 use Rattle.model.specs.RunList.{TouchesNone}
 use Rattle.run_index.specs.Shape.{inserted}
 use Rattle.run_index.specs.Tree.{Tree, leaf, node, inorder}
-use Rattle.store.specs.Layout.{world_at, tree_at}
+use Rattle.pool.specs.Layout.{world_at, tree_at}
 
 -- the tree without the numbers of its nodes: their runs, and how they hang together
 abbrev pub shape : Tree → Tree

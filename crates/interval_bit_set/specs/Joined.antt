@@ -4,8 +4,8 @@ use Rattle.model.specs.Answers.{OrRefusal}
 use Rattle.std.specs.Prelude.{ℕ, ◌≤◌, ◌<◌, ◌≡◌, List}
 use Rattle.model.specs.declared.Refusal.TheVariants.{Capacity}
 use Rattle.model.specs.Positions.{Positions, stretches}
-use Rattle.store.specs.Layout.{nodes, allowance, world_at, held_from, held_by}
-use Rattle.store.specs.Settle.{Settled}
+use Rattle.pool.specs.Layout.{nodes, allowance, world_at, held_from, held_by}
+use Rattle.pool.specs.Settle.{Settled}
 use Rattle.streams.specs.declared.source.View.{View}
 use Rattle.streams.specs.Reading.{Rooted}
 

@@ -3,11 +3,11 @@ use Rattle.std.specs.Prelude.{◌≡◌, ◌≤◌, ◌<◌, ℕ, true, false, S
 use Rattle.model.specs.Answers.{OrRefusal}
 use Rattle.model.specs.Numbers.{refusal_number}
 use Rattle.model.specs.declared.Refusal.TheVariants.{Unsound, WorldUnopened}
-use Rattle.store.specs.declared.Set.{Set}
-use Rattle.store.specs.declared.World.{World}
-use Rattle.store.specs.Layout.{capacity, opened_at, held, held_by}
-use Rattle.store.specs.Settle.{Opened}
-use Rattle.store.specs.Decision.{sound_b, worn}
+use Rattle.pool.specs.declared.Set.{Set}
+use Rattle.pool.specs.declared.World.{World}
+use Rattle.pool.specs.Layout.{capacity, opened_at, held, held_by}
+use Rattle.pool.specs.Settle.{Opened}
+use Rattle.pool.specs.Decision.{sound_b, worn}
 use Rattle.streams.specs.declared.source.View.{View}
 use Rattle.interval_bit_set.specs.Joined.{ViewOf}
 use Rattle.interval_bit_set.specs.Met.{faults}

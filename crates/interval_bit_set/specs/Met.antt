@@ -7,10 +7,10 @@ use Rattle.model.specs.Positions.{Positions}
 use Rattle.model.specs.Call.{Fed, wrong_length, unsound, holding, Call, Measure, Answer, refused, gave}
 use Rattle.model.specs.Model.{plan, Outcome, serve}
 use Rattle.model.specs.Pools.{world_of, fed_by, full, PoolOutcome, make_by, measure_by}
-use Rattle.store.specs.Layout.{capacity, held_by, worlds_of}
-use Rattle.store.specs.Decision.{sound_b}
-use Rattle.store.specs.Free.{Emptied}
-use Rattle.store.specs.Settle.{Settled, Openable}
+use Rattle.pool.specs.Layout.{capacity, held_by, worlds_of}
+use Rattle.pool.specs.Decision.{sound_b}
+use Rattle.pool.specs.Free.{Emptied}
+use Rattle.pool.specs.Settle.{Settled, Openable}
 
 -- a world of a further pool: the words lent, and the number
 pub record Site : Type 0 where

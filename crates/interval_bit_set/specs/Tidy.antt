@@ -1,7 +1,7 @@
 -- When the free list is put in order, and what the end of a call promises of it. Assumes nothing: these are definitions.
 use Rattle.std.specs.Prelude.{ℕ, ◌/◌, ◌<◌, ◌≤◌, ◌≡◌, List, length, Ok, Err}
 use Rattle.model.specs.Answers.{OrRefusal}
-use Rattle.store.specs.Relink.{Tidied, InOrder}
+use Rattle.pool.specs.Relink.{Tidied, InOrder}
 
 -- w' is such a pool: with its chain in order where that was worn, of the links looked at more leading back than one for 2048 nodes, else with each
 -- word as it was

@@ -13,7 +13,7 @@ ghost use Rattle.interval_bit_set.specs.Joined.{Carried};
 ghost use Rattle.interval_bit_set.specs.Met.{Readable, Met};
 ghost use Rattle.interval_bit_set.specs.Handles.{Handles};
 
-use crate::pool::Pool;
+use crate::checked::Pool;
 use maps::window::{Map, Window};
 use model::{Count, Refusal};
 use run_lists::{RunList, Words};
@@ -24,12 +24,12 @@ fn put<L: RunList + Copy>(words: &mut [u64], world: u64, runs: L) -> Result<(), 
     requires ordered { (ordered_from 0 (L.runs runs) ≡ true) × AllWords (L.runs runs) }
     ensures { Carried words.old words.new world (mem (L.runs runs)) result }
 {
-    if runs.count() > store::allowance(words, world) {
+    if runs.count() > pool::allowance(words, world) {
         return Err(Refusal::Capacity);
     }
-    let h = store::open(words, world);
+    let h = pool::open(words, world);
     let k = changes::overwrite::build(&mut words[128..], h, runs);
-    store::close(words, k);
+    pool::close(words, k);
     Ok(())
 }
 
@@ -55,15 +55,15 @@ fn put_map<const WIDE: bool>(
     if codec::padding::stray_bits(bytes, n) > 0 {
         return Err(Refusal::StrayBit);
     }
-    let h = store::open(words, world);
-    let limit = store::allowance(words, world);
+    let h = pool::open(words, world);
+    let limit = pool::allowance(words, world);
     let window = Window { base, n };
     let map = Map { window, bytes };
     let e = maps::read::read_map::<WIDE>(&mut words[128..], h, limit, &map);
     match e {
         None => Err(Refusal::Capacity),
         Some(made) => {
-            store::close(words, made.world);
+            pool::close(words, made.world);
             Ok(made.changed)
         }
     }
@@ -113,7 +113,7 @@ impl<'a> Pool<'a> {
 pub fn load(words: &mut [u64], world: u64, bytes: &[u8]) -> Result<(), Refusal>
     ensures { Met words.old world (Call.load bytes.now) (completed_answer result) words.new }
 {
-    let worn = crate::pool::check(words)?;
+    let worn = crate::checked::check(words)?;
     let mut pool = Pool { words };
     let answer = pool.load(world, bytes);
     pool.end(worn, answer)
@@ -123,7 +123,7 @@ pub fn load(words: &mut [u64], world: u64, bytes: &[u8]) -> Result<(), Refusal>
 pub fn from_sorted_words(words: &mut [u64], world: u64, runs: &[u64]) -> Result<(), Refusal>
     ensures { Met words.old world (Call.build (pairs (length runs.now / 2) runs.now)) (completed_answer result) words.new }
 {
-    let worn = crate::pool::check(words)?;
+    let worn = crate::checked::check(words)?;
     let mut pool = Pool { words };
     let answer = pool.build(world, Words(runs));
     pool.end(worn, answer)
@@ -139,7 +139,7 @@ pub fn read_map(
 ) -> Result<Count, Refusal>
     ensures { Met words.old world (Call.read_map base n bytes.now) (counted_answer result) words.new }
 {
-    let worn = crate::pool::check(words)?;
+    let worn = crate::checked::check(words)?;
     let mut pool = Pool { words };
     let answer = pool.read_map::<true>(world, base, n, bytes);
     pool.end(worn, answer)
@@ -155,7 +155,7 @@ pub fn read_map_by_bytes(
 ) -> Result<Count, Refusal>
     ensures { Met words.old world (Call.read_map base n bytes.now) (counted_answer result) words.new }
 {
-    let worn = crate::pool::check(words)?;
+    let worn = crate::checked::check(words)?;
     let mut pool = Pool { words };
     let answer = pool.read_map::<false>(world, base, n, bytes);
     pool.end(worn, answer)

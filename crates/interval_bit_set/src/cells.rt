@@ -6,7 +6,7 @@ ghost use Rattle.grid.specs.Areas.{AreaOf, SquareOf};
 ghost use Rattle.interval_bit_set.specs.Met.{Readable, Met};
 ghost use Rattle.interval_bit_set.specs.Out.{WritesOut};
 
-use crate::pool::{Pool, PoolRef};
+use crate::checked::{Pool, PoolRef};
 use grid::rows::Area;
 use grid::tile::{Corner, Square};
 use model::{Count, Rect, Refusal};
@@ -56,12 +56,12 @@ fn set_cells(words: &mut [u64], world: u64, q: Rect, value: bool) -> Result<Coun
     let Some(area) = area_of(q) else {
         return Err(Refusal::OffPlane);
     };
-    let limit = store::allowance(words, world);
-    let h = store::open(words, world);
+    let limit = pool::allowance(words, world);
+    let h = pool::open(words, world);
     let Some(made) = grid::rows::set(&mut words[128..], h, limit, area, value) else {
         return Err(Refusal::Capacity);
     };
-    store::close(words, made.world);
+    pool::close(words, made.world);
     Ok(made.changed)
 }
 
@@ -114,7 +114,7 @@ impl<'a> PoolRef<'a> {
 pub fn set_rect(words: &mut [u64], world: u64, q: Rect, value: bool) -> Result<Count, Refusal>
     ensures { Met words.old world (Call.set_rect q value) (counted_answer result) words.new }
 {
-    let worn = crate::pool::check(words)?;
+    let worn = crate::checked::check(words)?;
     let mut pool = Pool { words };
     let answer = pool.set_rect(world, q, value);
     pool.end(worn, answer)

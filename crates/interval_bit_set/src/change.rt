@@ -6,7 +6,7 @@ ghost use Rattle.model.specs.Call.{Call};
 ghost use Rattle.interval_bit_set.specs.Grown.{Grows};
 ghost use Rattle.interval_bit_set.specs.Met.{Met, Readable};
 
-use crate::pool::Pool;
+use crate::checked::Pool;
 use model::{Bound, Count, Refusal};
 
 // An empty range or a reversed one changes nothing; another is set where it stands, if the runs it would leave fit.
@@ -26,12 +26,12 @@ fn set_range(
     let Some(r) = model::within(lower, upper) else {
         return Ok(Count { carry: 0, low: 0 });
     };
-    let limit = store::allowance(words, world);
-    let h = store::open(words, world);
+    let limit = pool::allowance(words, world);
+    let h = pool::open(words, world);
     let Some(made) = changes::edit::set(&mut words[128..], h, limit, r, value) else {
         return Err(Refusal::Capacity);
     };
-    store::close(words, made.world);
+    pool::close(words, made.world);
     Ok(made.changed)
 }
 
@@ -43,12 +43,12 @@ fn flip_range(words: &mut [u64], world: u64, lower: Bound, upper: Bound) -> Resu
     let Some(r) = model::within(lower, upper) else {
         return Ok(());
     };
-    let limit = store::allowance(words, world);
-    let h = store::open(words, world);
+    let limit = pool::allowance(words, world);
+    let h = pool::open(words, world);
     let Some(k) = changes::edit::flip(&mut words[128..], h, limit, r) else {
         return Err(Refusal::Capacity);
     };
-    store::close(words, k);
+    pool::close(words, k);
     Ok(())
 }
 
@@ -57,9 +57,9 @@ fn shift_by(words: &mut [u64], world: u64, distance: u64, left: bool) -> Result<
     requires { Readable words.old world }
     ensures { Met words.old world (Call.shift distance left) (completed_answer result) words.new }
 {
-    let h = store::open(words, world);
+    let h = pool::open(words, world);
     let k = changes::edit::shift(&mut words[128..], h, distance, left);
-    store::close(words, k);
+    pool::close(words, k);
     Ok(())
 }
 
@@ -68,9 +68,9 @@ fn empty_world(words: &mut [u64], world: u64) -> Result<(), Refusal>
     requires { Readable words.old world }
     ensures { Met words.old world (Call.build []) (completed_answer result) words.new }
 {
-    let h = store::open(words, world);
+    let h = pool::open(words, world);
     let k = changes::edit::emptied(&mut words[128..], h);
-    store::close(words, k);
+    pool::close(words, k);
     Ok(())
 }
 
@@ -160,7 +160,7 @@ pub fn set(
     ensures met { Met words.old world (Call.set lower upper value) (counted_answer result) words.new }
     ensures grows { Grows words.old world lower upper value result words.new }
 {
-    let worn = crate::pool::check(words)?;
+    let worn = crate::checked::check(words)?;
     let mut pool = Pool { words };
     let answer = pool.set(world, lower, upper, value);
     pool.end(worn, answer)
@@ -170,7 +170,7 @@ pub fn set(
 pub fn flip(words: &mut [u64], world: u64, lower: Bound, upper: Bound) -> Result<(), Refusal>
     ensures { Met words.old world (Call.flip lower upper) (completed_answer result) words.new }
 {
-    let worn = crate::pool::check(words)?;
+    let worn = crate::checked::check(words)?;
     let mut pool = Pool { words };
     let answer = pool.flip(world, lower, upper);
     pool.end(worn, answer)
@@ -180,7 +180,7 @@ pub fn flip(words: &mut [u64], world: u64, lower: Bound, upper: Bound) -> Result
 pub fn shift(words: &mut [u64], world: u64, distance: u64, left: bool) -> Result<(), Refusal>
     ensures { Met words.old world (Call.shift distance left) (completed_answer result) words.new }
 {
-    let worn = crate::pool::check(words)?;
+    let worn = crate::checked::check(words)?;
     let mut pool = Pool { words };
     let answer = pool.shift(world, distance, left);
     pool.end(worn, answer)
@@ -196,7 +196,7 @@ pub fn set_strict(
 ) -> Result<Count, Refusal>
     ensures { Met words.old world (Call.set_strict lower upper value) (counted_answer result) words.new }
 {
-    let worn = crate::pool::check(words)?;
+    let worn = crate::checked::check(words)?;
     let mut pool = Pool { words };
     let answer = pool.set_strict(world, lower, upper, value);
     pool.end(worn, answer)
@@ -206,7 +206,7 @@ pub fn set_strict(
 pub fn flip_strict(words: &mut [u64], world: u64, lower: Bound, upper: Bound) -> Result<(), Refusal>
     ensures { Met words.old world (Call.flip_strict lower upper) (completed_answer result) words.new }
 {
-    let worn = crate::pool::check(words)?;
+    let worn = crate::checked::check(words)?;
     let mut pool = Pool { words };
     let answer = pool.flip_strict(world, lower, upper);
     pool.end(worn, answer)

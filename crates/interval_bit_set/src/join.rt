@@ -8,7 +8,7 @@ ghost use Rattle.interval_bit_set.specs.Look.{FindsView};
 ghost use Rattle.interval_bit_set.specs.Met.{site, Readable, Met};
 ghost use Rattle.interval_bit_set.specs.Joined.{Carried};
 
-use crate::pool::{Pool, PoolRef};
+use crate::checked::{Pool, PoolRef};
 use model::between::Interval;
 use model::{Logical, Operation, Refusal};
 use streams::feed::Feed;
@@ -27,12 +27,12 @@ fn gathered<'a>(
     requires readable { Readable words.old world }
     ensures { Carried words.old words.new world (joined op x.entry y.entry) result }
 {
-    if !streams::feed::fits(op, x, y, store::allowance(words, world)) {
+    if !streams::feed::fits(op, x, y, pool::allowance(words, world)) {
         return Err(Refusal::Capacity);
     }
-    let h = store::open(words, world);
+    let h = pool::open(words, world);
     let k = changes::overwrite::gather(&mut words[128..], h, op, x, y);
-    store::close(words, k);
+    pool::close(words, k);
     Ok(())
 }
 
@@ -157,7 +157,7 @@ pub fn combine(
 ) -> Result<(), Refusal>
     ensures { Met words.old world (Call.combine op (site a.now i) (site b.now j)) (completed_answer result) words.new }
 {
-    let worn = crate::pool::check_three(words, a, b)?;
+    let worn = crate::checked::check_three(words, a, b)?;
     let mut pool = Pool { words };
     let x = PoolRef { words: a };
     let y = PoolRef { words: b };
@@ -169,7 +169,7 @@ pub fn combine(
 pub fn not(words: &mut [u64], world: u64, a: &[u64], i: u64) -> Result<(), Refusal>
     ensures { Met words.old world (Call.complement (site a.now i)) (completed_answer result) words.new }
 {
-    let worn = crate::pool::check_two(words, a)?;
+    let worn = crate::checked::check_two(words, a)?;
     let mut pool = Pool { words };
     let x = PoolRef { words: a };
     let answer = pool.not(world, x, i);
@@ -187,7 +187,7 @@ pub fn shifted(
 ) -> Result<(), Refusal>
     ensures { Met words.old world (Call.shifted distance left (site a.now i)) (completed_answer result) words.new }
 {
-    let worn = crate::pool::check_two(words, a)?;
+    let worn = crate::checked::check_two(words, a)?;
     let mut pool = Pool { words };
     let x = PoolRef { words: a };
     let answer = pool.shifted(world, distance, left, x, i);
@@ -198,7 +198,7 @@ pub fn shifted(
 pub fn eq(a: &[u64], i: u64, b: &[u64], j: u64) -> Result<bool, Refusal>
     ensures { Met a.now i (Call.equal (site b.now j)) (tested_answer result) a.now }
 {
-    crate::pool::check_two(a, b)?;
+    crate::checked::check_two(a, b)?;
     let x = PoolRef { words: a };
     let y = PoolRef { words: b };
     x.eq(i, y, j)

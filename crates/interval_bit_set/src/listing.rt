@@ -7,7 +7,7 @@ ghost use Rattle.model.specs.Answers.{drawn_answer};
 ghost use Rattle.interval_bit_set.specs.Lent.{Draws};
 ghost use Rattle.interval_bit_set.specs.Met.{Met};
 
-use crate::pool::PoolRef;
+use crate::checked::PoolRef;
 use model::between::Interval;
 use model::{Drawn, Listing, Logical, Refusal, Run};
 

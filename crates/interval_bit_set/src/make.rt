@@ -4,7 +4,7 @@ ghost use Rattle.model.specs.Pools.{limits_of};
 ghost use Rattle.interval_bit_set.specs.Met.{Made};
 
 use model::Refusal;
-use store::Store;
+use pool::Store;
 
 // A new pool in lent words: a world, which is empty, for each floor and ceiling of the limits, which are lent in turn. A last word
 // without its partner is no world.
@@ -15,9 +15,9 @@ pub fn new(words: &mut [u64], limits: &[u64]) -> Result<(), Refusal>
     if s.capacity == 0 {
         return Err(Refusal::StoreLength);
     }
-    if !store::free::limits_fit(limits, s.capacity) {
+    if !pool::free::limits_fit(limits, s.capacity) {
         return Err(Refusal::WorldLimits);
     }
-    store::free::make(words, limits, (limits.len() / 2) as u64);
+    pool::free::make(words, limits, (limits.len() / 2) as u64);
     Ok(())
 }

@@ -3,7 +3,7 @@ ghost use Rattle.model.specs.Call.{Measure};
 ghost use Rattle.interval_bit_set.specs.Out.{WritesMeasured};
 
 use model::Refusal;
-use store::Store;
+use pool::Store;
 
 // Writes the shortest list of runs that makes a tree of the height h, set one by one in that order into an empty world: start and end of each run, in
 // turn. Tells how many words it has.

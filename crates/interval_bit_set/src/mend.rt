@@ -9,9 +9,9 @@ ghost use Rattle.union.specs.Mended.{Due};
 ghost use Rattle.interval_bit_set.specs.Met.{Readable};
 ghost use Rattle.interval_bit_set.specs.Out.{Mendable, Mends};
 
-use crate::pool::Pool;
-use model::{Mended, Refusal};
+use crate::checked::Pool;
 use codec::told::Told;
+use model::{Mended, Refusal};
 
 // How many runs the outcome has: a set that is right has its own.
 fn outcome_runs(told: Told<'_>, right: bool) -> u64
@@ -52,7 +52,7 @@ fn put_mended(
     let told = codec::set::shape_told(bytes)?;
     let right = run_lists::in_order(told);
     let k = outcome_runs(told, right);
-    if k > store::allowance(words, world) {
+    if k > pool::allowance(words, world) {
         return Err(Refusal::Capacity);
     }
     let due = codec::set::length_of(k) as usize;
@@ -69,9 +69,9 @@ fn put_mended(
         edition: told.edition,
         count: k,
     };
-    let h = store::open(words, world);
+    let h = pool::open(words, world);
     let w = changes::overwrite::build(&mut words[128..], h, outcome);
-    store::close(words, w);
+    pool::close(words, w);
     Ok(Mended {
         bytes: due,
         report: notes,
@@ -109,7 +109,7 @@ pub fn mend(
     ensures { Mends words.old world bytes.now out.old report.old result
         words.new out.new report.new }
 {
-    let worn = crate::pool::check(words)?;
+    let worn = crate::checked::check(words)?;
     let mut pool = Pool { words };
     let answer = pool.mend(world, bytes, out, report);
     pool.end(worn, answer)

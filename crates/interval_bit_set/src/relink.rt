@@ -1,6 +1,6 @@
 // When the free list of a pool is put in order. The check sees on its way how worn the list is. A call that changes a world, and a frame, puts a
 // worn list in order after its work is done: every refusal is decided by then.
-ghost use Rattle.store.specs.Soundness.{Sound};
+ghost use Rattle.pool.specs.Soundness.{Sound};
 ghost use Rattle.interval_bit_set.specs.Tidy.{Tidies};
 
 // Puts the free list in order where the check found more links back than one for 2048 nodes. It looks at one link in 64, so that is one in 32 or so of all
@@ -10,6 +10,6 @@ pub fn tidy(words: &mut [u64], worn: u64)
     ensures { Tidies words.old words.new worn }
 {
     if worn > (words.len() / 16384) as u64 {
-        store::relink::relink(words);
+        pool::relink::relink(words);
     }
 }

@@ -4,7 +4,7 @@ ghost use Rattle.model.specs.Call.{Call};
 ghost use Rattle.model.specs.Answers.{numbered_answer, tallied_answer, tested_answer, around_answer, found_answer, listed_answer, drawn_answer};
 ghost use Rattle.interval_bit_set.specs.Met.{Met};
 
-use crate::pool::PoolRef;
+use crate::checked::PoolRef;
 use model::between::Interval;
 use model::{Bound, Count, Drawn, Listing, Logical, Refusal, Run, Tally};
 

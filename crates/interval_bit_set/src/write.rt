@@ -9,7 +9,7 @@ ghost use Rattle.interval_bit_set.specs.Met.{outcome_of};
 ghost use Rattle.interval_bit_set.specs.Out.{WritesOut};
 ghost use Rattle.interval_bit_set.specs.Parts.{code_of, front_of, count_of, Handed};
 
-use crate::pool::PoolRef;
+use crate::checked::PoolRef;
 use maps::window::Window;
 use model::{Edition, Refusal};
 

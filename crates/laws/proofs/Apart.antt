@@ -19,7 +19,7 @@ use Rattle.model.specs.Model.{strict}
 use Rattle.model.proofs.Counting.{count-cong}
 use Rattle.model.proofs.After.{differ_self}
 use Rattle.model.proofs.Edit.{and-holds}
-use Rattle.store.specs.Layout.{held_by, worlds_of}
+use Rattle.pool.specs.Layout.{held_by, worlds_of}
 use Rattle.interval_bit_set.specs.Met.{Site, Met}
 use Rattle.interval_bit_set.proofs.Changing.{Changes, set_says, flip-says, read-map-says, set-strict-says, flip-strict-says}
 use Rattle.interval_bit_set.proofs.Served.{bounded-ends}

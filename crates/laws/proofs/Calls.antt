@@ -12,10 +12,10 @@ use Rattle.model.specs.Positions.{Positions, count, run_count, stretches, set_ra
 use Rattle.model.specs.Call.{Call, done, number, tallied, Answer, gave}
 use Rattle.model.specs.Model.{positions_of}
 use Rattle.model.proofs.Runs.{stretches-cong}
-use Rattle.store.specs.Layout.{allowance, held_by, worlds_of}
-use Rattle.store.specs.Settle.{Settled}
-use Rattle.store.proofs.Turn.{pool-past}
-use Rattle.store.proofs.Worlds.{held-allowed}
+use Rattle.pool.specs.Layout.{allowance, held_by, worlds_of}
+use Rattle.pool.specs.Settle.{Settled}
+use Rattle.pool.proofs.Turn.{pool-past}
+use Rattle.pool.proofs.Worlds.{held-allowed}
 use Rattle.interval_bit_set.specs.Met.{Site, fed_at, Readable, Met}
 use Rattle.interval_bit_set.proofs.Meeting.{tally-says}
 use Rattle.interval_bit_set.proofs.Changing.{bounded-is, set_says, flip-says, shift_says, set-strict-says, flip-strict-says}

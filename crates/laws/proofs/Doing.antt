@@ -15,10 +15,10 @@ use Rattle.model.specs.Call.{Call, Result, Answer, gave}
 use Rattle.model.specs.Model.{Outcome, positions_of, reads, settle, report, change}
 use Rattle.model.specs.Pools.{PlainWorld, world_of, fed_by, other_claims, exceeds, full, holding_at}
 use Rattle.model.proofs.Pools.{holding-fed}
-use Rattle.store.specs.Layout.{capacity_of, capacity, allowance, held_by, worlds_of}
-use Rattle.store.specs.Settle.{Settled}
-use Rattle.store.proofs.Turn.{pool-past}
-use Rattle.store.proofs.WorldLists.{opened-world}
+use Rattle.pool.specs.Layout.{capacity_of, capacity, allowance, held_by, worlds_of}
+use Rattle.pool.specs.Settle.{Settled}
+use Rattle.pool.proofs.Turn.{pool-past}
+use Rattle.pool.proofs.WorldLists.{opened-world}
 use Rattle.interval_bit_set.specs.Met.{Site, fed_of, full_at, outcome_of, Readable, Met}
 use Rattle.interval_bit_set.proofs.Refusing.{looked-first, refused-before, refused_full}
 use Rattle.interval_bit_set.proofs.Meeting.{readable, Reports}

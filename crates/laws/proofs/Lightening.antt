@@ -12,8 +12,8 @@ use Rattle.model.specs.Positions.{Positions, stretches}
 use Rattle.model.specs.Call.{Call, Answer, refused, gave}
 use Rattle.model.specs.Pools
 use Rattle.model.specs.Pools.{PlainWorld, world_of, claims, other_claims, holding_at, allowance_of}
-use Rattle.store.specs.Layout.{capacity_of, capacity, allowance, plain_at, held_by, worlds_of}
-use Rattle.store.proofs.WorldLists.{opened-world}
+use Rattle.pool.specs.Layout.{capacity_of, capacity, allowance, plain_at, held_by, worlds_of}
+use Rattle.pool.proofs.WorldLists.{opened-world}
 use Rattle.interval_bit_set.specs.Met.{Readable, Met}
 use Rattle.laws.specs.Pairs.{Did, Shifts, none, shift}
 use Rattle.laws.proofs.Moving.{moved, moved-few}

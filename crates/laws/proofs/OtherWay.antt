@@ -23,9 +23,9 @@ use Rattle.model.specs.Call.{Call, done, Answer, refused, gave}
 use Rattle.model.specs.Model.{positions_of, reads}
 use Rattle.model.specs.Pools
 use Rattle.model.specs.Pools.{PlainWorld, world_of, claims, other_claims, empty_worlds, make_by}
-use Rattle.store.specs.Layout.{capacity_of, capacity, allowance, held_by, worlds_of}
-use Rattle.store.specs.Settle.{Openable}
-use Rattle.store.proofs.WorldLists.{opened-world}
+use Rattle.pool.specs.Layout.{capacity_of, capacity, allowance, held_by, worlds_of}
+use Rattle.pool.specs.Settle.{Openable}
+use Rattle.pool.proofs.WorldLists.{opened-world}
 use Rattle.interval_bit_set.specs.Met.{site, fed_of, outcome_of, Leaves, Readable, Met, made_of, MakeLeaves, Made}
 use Rattle.interval_bit_set.proofs.Meeting.{readable}
 use Rattle.interval_bit_set.proofs.Changing.{full-before, set_says}

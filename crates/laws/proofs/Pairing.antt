@@ -12,7 +12,7 @@ use Rattle.model.specs.Positions.{stretches, combined}
 use Rattle.model.specs.Refusals.{looks, first_given}
 use Rattle.model.specs.Call.{holding, Call, done, Answer, gave}
 use Rattle.model.specs.Model.{reads}
-use Rattle.store.specs.Layout.{allowance, held_by}
+use Rattle.pool.specs.Layout.{allowance, held_by}
 use Rattle.interval_bit_set.specs.Met.{Site, site, fed_at, Readable, Met}
 use Rattle.interval_bit_set.proofs.Looking.{looked-sound}
 use Rattle.laws.specs.Pairs.{Did, holds, SameLeft, BothShift, two_pools, one_pool, one_pool_turned, one_world, BothShifted, into_pools, into_pool, into_pool_turned, into_world}

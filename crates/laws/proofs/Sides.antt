@@ -15,8 +15,8 @@ use Rattle.model.proofs.Counting.{among-yes}
 use Rattle.model.proofs.Edit.{and-holds}
 use Rattle.model.proofs.Ops.{bounded-below}
 use Rattle.model.proofs.Runs.{stretches-cong}
-use Rattle.store.specs.Layout.{allowance, held_by, worlds_of}
-use Rattle.store.proofs.Turn.{pool-past}
+use Rattle.pool.specs.Layout.{allowance, held_by, worlds_of}
+use Rattle.pool.proofs.Turn.{pool-past}
 use Rattle.interval_bit_set.specs.Met.{Met}
 use Rattle.interval_bit_set.proofs.Changing.{set_says}
 use Rattle.interval_bit_set.proofs.Served.{bounded-ends}

@@ -10,9 +10,9 @@ use Rattle.model.specs.Refusals.{store_length, world_limits, looks, Condition, g
 use Rattle.model.specs.Call.{Fed, wrong_length, unsound, unopened, holding, Call, feed, Result, Answer, refused, gave}
 use Rattle.model.specs.Model.{positions_of, reads, settle, serve}
 use Rattle.model.specs.Pools.{PlainWorld, holding_at}
-use Rattle.store.specs.Layout.{capacity_of, capacity, held_by, worlds_of}
-use Rattle.store.specs.Settle.{Settled}
-use Rattle.store.proofs.Turn.{pool-past}
+use Rattle.pool.specs.Layout.{capacity_of, capacity, held_by, worlds_of}
+use Rattle.pool.specs.Settle.{Settled}
+use Rattle.pool.proofs.Turn.{pool-past}
 use Rattle.interval_bit_set.specs.Met.{Site, fed_at, fed_of, full_at, outcome_of, Readable, Met}
 use Rattle.interval_bit_set.proofs.Refusing.{unopened-refused}
 use Rattle.interval_bit_set.proofs.Served.{Ends, Served, served, unrefused}

@@ -15,9 +15,9 @@ use Rattle.model.specs.Call.{Call, number, Answer, gave}
 use Rattle.model.proofs.Ops.{bounded-below}
 use Rattle.model.proofs.After.{set-inside, set_below}
 use Rattle.model.proofs.Runs.{stretches-cong}
-use Rattle.store.specs.Layout.{held_by, worlds_of}
-use Rattle.store.proofs.Turn.{pool-past}
-use Rattle.store.proofs.Worlds.{held-allowed}
+use Rattle.pool.specs.Layout.{held_by, worlds_of}
+use Rattle.pool.proofs.Turn.{pool-past}
+use Rattle.pool.proofs.Worlds.{held-allowed}
 use Rattle.interval_bit_set.specs.Met.{Site, site, Met}
 use Rattle.interval_bit_set.proofs.Served.{bounded-ends}
 use Rattle.interval_bit_set.proofs.Simulation.{same-positions}

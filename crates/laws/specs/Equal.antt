@@ -3,8 +3,8 @@
 use Rattle.std.specs.Prelude.{ℕ, ◌<◌, ◌≡◌, List}
 use Rattle.model.specs.Call.{Call, Answer}
 use Rattle.model.specs.Model.{plan}
-use Rattle.store.specs.Layout.{opened_at, held_by}
-use Rattle.store.specs.Soundness.{Sound}
+use Rattle.pool.specs.Layout.{opened_at, held_by}
+use Rattle.pool.specs.Soundness.{Sound}
 use Rattle.interval_bit_set.specs.Met.{Site, fed_at, Met}
 use Rattle.laws.specs.Swaps.{kind, reporting}
 

@@ -10,8 +10,8 @@ use Rattle.model.specs.declared.Operation.TheVariants.{And, Or}
 use Rattle.model.specs.Numbers.{size}
 use Rattle.model.specs.Positions.{empty}
 use Rattle.model.specs.Call.{Call, done, number, tallied, Answer, refused, gave}
-use Rattle.store.specs.Layout.{capacity, opened_at, held_by, worlds_of}
-use Rattle.store.specs.Soundness.{Sound}
+use Rattle.pool.specs.Layout.{capacity, opened_at, held_by, worlds_of}
+use Rattle.pool.specs.Soundness.{Sound}
 use Rattle.interval_bit_set.specs.Met.{Site, site, fed_at, Met, Made}
 use Rattle.laws.specs.Pairs.{Did, holds, SameLeft, BothShift, BothShifted, Shifts}
 

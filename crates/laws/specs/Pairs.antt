@@ -2,7 +2,7 @@
 use Rattle.std.specs.Prelude.{ℕ, ◌≡◌, Bool, List}
 use Rattle.model.specs.Positions.{Positions}
 use Rattle.model.specs.Call.{Call, done, Answer, gave}
-use Rattle.store.specs.Layout.{held_by, worlds_of}
+use Rattle.pool.specs.Layout.{held_by, worlds_of}
 use Rattle.interval_bit_set.specs.Met.{Site, site, Met}
 
 -- the call c on world i of the words w was done: it was not refused, gave success alone and left the words w'

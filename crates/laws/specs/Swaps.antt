@@ -5,7 +5,7 @@ use Rattle.model.specs.Ends.{Bound}
 use Rattle.model.specs.Range.{first_allowed, past_allowed, extent}
 use Rattle.model.specs.Call.{Call, number, Result, Answer, gave}
 use Rattle.model.specs.Model.{Effect, plan}
-use Rattle.store.specs.Layout.{worlds_of}
+use Rattle.pool.specs.Layout.{worlds_of}
 use Rattle.interval_bit_set.specs.Met.{Site, fed_at, Met}
 use Rattle.laws.specs.Pairs.{Did}
 

@@ -16,9 +16,9 @@ use Rattle.model.specs.Call.{Call, Result, done, Answer, refused, gave}
 use Rattle.model.specs.Answers.{completed_answer}
 use Rattle.model.specs.Model.{Outcome, positions_of}
 use Rattle.model.specs.Pools.{world_of, fed_by, holding_at, limits_from, limits_of, empty_worlds, make_by, step, alone}
-use Rattle.store.specs.Layout.{capacity_of, capacity, held_by, plain_at, worlds_of}
-use Rattle.store.specs.Settle.{Openable}
-use Rattle.store.proofs.WorldLists.{opened-world}
+use Rattle.pool.specs.Layout.{capacity_of, capacity, held_by, plain_at, worlds_of}
+use Rattle.pool.specs.Settle.{Openable}
+use Rattle.pool.proofs.WorldLists.{opened-world}
 use Rattle.interval_bit_set.specs.Met.{Met, made_of, MakeLeaves, Made}
 use Rattle.interval_bit_set.proofs.Simulation.{Holds, outcome-is, step-holds}
 use Rattle.listset.proofs.Drawing.{granted}

@@ -23,8 +23,8 @@ use Rattle.model.proofs.RunList.{canon-weaken, mem-above}
 use Rattle.model.specs.Call.{Call, Result, tallied, listing, drawn, Answer, gave}
 use Rattle.model.specs.Answers.{OrRefusal, answer_by, tallied_answer, listed_answer}
 use Rattle.model.specs.Model.{positions_of, report}
-use Rattle.store.specs.Layout.{held_by}
-use Rattle.store.specs.Settle.{Openable}
+use Rattle.pool.specs.Layout.{held_by}
+use Rattle.pool.specs.Settle.{Openable}
 use Rattle.reports.specs.Reports.{Measured}
 use Rattle.listset.specs.Text.{count_lines, run_lines, set_lines}
 use Rattle.interval_bit_set.specs.Lent.{item_answer, Draws}

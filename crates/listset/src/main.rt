@@ -5,8 +5,8 @@
 ghost use Rattle.std.specs.Prelude.{◌≡◌, ◌^◌, ◌≤◌, ◌++◌, ◌∷◌, [], true, take, IfOk, IfSome, MatchOption};
 ghost use Rattle.model.specs.Numbers.{size, worth, refusal_number};
 ghost use Rattle.model.specs.Positions.{held_runs, remaining};
-ghost use Rattle.store.specs.Layout.{held_by};
-ghost use Rattle.store.specs.Settle.{Openable};
+ghost use Rattle.pool.specs.Layout.{held_by};
+ghost use Rattle.pool.specs.Settle.{Openable};
 ghost use Rattle.reports.specs.Reports.{Measured};
 ghost use Rattle.listset.specs.Text.{decimal, run_line, run_lines, refused_line, count_lines, set_lines, printed};
 ghost use Rattle.listset.specs.Put.{Puts};

@@ -25,7 +25,7 @@ use Rattle.model.proofs.Converting.{
   converted-serve,
   columns-refused,
 }
-use Rattle.store.specs.Layout.{held_by, worlds_of}
+use Rattle.pool.specs.Layout.{held_by, worlds_of}
 use Rattle.interval_bit_set.specs.Met.{fed_of, full_at, outcome_of, Leaves, Met}
 use Rattle.interval_bit_set.specs.Handles.{Handles}
 use Rattle.interval_bit_set.proofs.Putting.{take-front}

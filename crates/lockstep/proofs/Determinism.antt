@@ -16,9 +16,9 @@ use Rattle.model.specs.RunList.{AllBytes}
 use Rattle.model.specs.Call.{Call, at, done, gave}
 use Rattle.model.specs.Pools.{PlainWorld, world_of, empty_worlds}
 use Rattle.model.proofs.Numbers.{split}
-use Rattle.store.specs.Layout.{opened_at, held_by, plain_at, worlds_of}
-use Rattle.store.specs.Settle.{Openable}
-use Rattle.store.proofs.WorldLists.{opened-world, unopened-world}
+use Rattle.pool.specs.Layout.{opened_at, held_by, plain_at, worlds_of}
+use Rattle.pool.specs.Settle.{Openable}
+use Rattle.pool.proofs.WorldLists.{opened-world, unopened-world}
 use Rattle.interval_bit_set.specs.Met.{Site}
 use Rattle.interval_bit_set.proofs.Putting.{take-front}
 use Rattle.interval_bit_set.proofs.Simulation.{Holds}

@@ -13,7 +13,7 @@ use Rattle.model.specs.Refusals.{Condition, ◌when◌, window, refusal, bad_win
 use Rattle.model.specs.Call.{holding, Call, number, gave}
 use Rattle.model.specs.Model.{positions_of, reads, settle, report}
 use Rattle.model.proofs.Counting.{count-all, count_none, counted_none}
-use Rattle.store.specs.Layout.{held_by}
+use Rattle.pool.specs.Layout.{held_by}
 use Rattle.interval_bit_set.specs.Met.{fed_of, Readable, Met}
 use Rattle.interval_bit_set.proofs.Meeting.{fill-says}
 use Rattle.interval_bit_set.proofs.Served.{unrefused}

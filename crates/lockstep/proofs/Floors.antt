@@ -42,9 +42,9 @@ use Rattle.model.specs.Model.{positions_of, reads, settle, report, change, write
 use Rattle.model.specs.Mending.{mended_positions}
 use Rattle.model.specs.Pools.{full, exceeds, other_claims}
 use Rattle.model.proofs.Pools.{claims-split}
-use Rattle.store.specs.Layout.{capacity, opened_at, floor_at, plain_at, worlds_of}
-use Rattle.store.specs.Soundness.{Sound}
-use Rattle.store.proofs.WorldLists.{opened-world}
+use Rattle.pool.specs.Layout.{capacity, opened_at, floor_at, plain_at, worlds_of}
+use Rattle.pool.specs.Soundness.{Sound}
+use Rattle.pool.proofs.WorldLists.{opened-world}
 use Rattle.interval_bit_set.specs.Met.{Site, fed_at, fed_of, full_at, outcome_of, Met}
 use Rattle.interval_bit_set.proofs.Changing.{bounded-is}
 use Rattle.interval_bit_set.proofs.Served.{unrefused}

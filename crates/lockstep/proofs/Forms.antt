@@ -11,10 +11,10 @@ use Rattle.model.specs.Answers.{written_answer}
 use Rattle.model.specs.Numbers.{most_worlds}
 use Rattle.model.specs.Positions.{Positions}
 use Rattle.model.specs.Call.{Call, Answer, refused, gave}
-use Rattle.store.specs.Layout.{opened_at, floor_at, ceiling_at, held_by, plain_at, worlds_from, worlds_of}
-use Rattle.store.specs.Settle.{Settled}
-use Rattle.store.proofs.Turn.{pool-past}
-use Rattle.store.proofs.WorldLists.{worlds-same}
+use Rattle.pool.specs.Layout.{opened_at, floor_at, ceiling_at, held_by, plain_at, worlds_from, worlds_of}
+use Rattle.pool.specs.Settle.{Settled}
+use Rattle.pool.proofs.Turn.{pool-past}
+use Rattle.pool.proofs.WorldLists.{worlds-same}
 use Rattle.interval_bit_set.specs.Met.{Site, outcome_of, Leaves, Met}
 use Rattle.interval_bit_set.specs.Out.{Unwritten, WritesOut}
 use Rattle.interval_bit_set.proofs.Simulation.{same-positions}

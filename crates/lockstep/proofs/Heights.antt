@@ -26,14 +26,14 @@ use Rattle.run_index.specs.Shape.{inserted, Sown}
 use Rattle.run_index.specs.Tree.{Tree, leaf, node, link, height, inorder, runs}
 use Rattle.run_index.proofs.Sowing.{sown-more, sown-untouched}
 use Rattle.run_index.proofs.Sparsest.{deepest-height}
-use Rattle.store.specs.Layout.{opened_at, nodes, allowance, world_at, held_by, tree_at}
-use Rattle.store.specs.Soundness.{runs_at, share_of, Standing, Sound}
-use Rattle.store.specs.Settle.{Settled}
-use Rattle.store.proofs.Emptying.{empty-stretches}
-use Rattle.store.proofs.Heights.{unturned-runs, world-lower}
-use Rattle.store.proofs.Opening.{standing-some}
-use Rattle.store.proofs.Reached.{kept-tree}
-use Rattle.store.proofs.Worlds.{world-standing}
+use Rattle.pool.specs.Layout.{opened_at, nodes, allowance, world_at, held_by, tree_at}
+use Rattle.pool.specs.Soundness.{runs_at, footprint_of, Standing, Sound}
+use Rattle.pool.specs.Settle.{Settled}
+use Rattle.pool.proofs.Emptying.{empty-stretches}
+use Rattle.pool.proofs.Heights.{unturned-runs, world-lower}
+use Rattle.pool.proofs.Opening.{standing-some}
+use Rattle.pool.proofs.Reached.{kept-tree}
+use Rattle.pool.proofs.Worlds.{world-standing}
 use Rattle.changes.proofs.Lists.{append-one}
 use Rattle.changes.proofs.SetRuns.{set-one-more}
 use Rattle.interval_bit_set.specs.Grown.{shape, Unturned, Clear}
@@ -204,7 +204,7 @@ sparse-runs {w} {i} p = omega (arith, unturned-runs (world-standing p.sound i p.
 -- it has no tree, and no offset
 module _ {w : List ℕ} {i : ℕ} (S : Sound w) (l : i < opened_at w) (small : (world_at w i).offset < size)
     (bare : (x : ℕ) → x < size → held_by w i x ≡ false) where
-  abbrev st : Standing (nodes w) (share_of w i) (world_at w i)
+  abbrev st : Standing (nodes w) (footprint_of w i) (world_at w i)
   st = world-standing S i l
 
   no-run : runs st.tree ≡ 0

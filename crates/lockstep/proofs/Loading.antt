@@ -12,9 +12,9 @@ use Rattle.model.specs.Refusals.{capacity as too_much, ◌when◌, refusal, set_
 use Rattle.model.specs.Call.{Call, done, gave}
 use Rattle.model.specs.Model.{positions_of, settle, change, serve}
 use Rattle.model.proofs.RoundTrips.{conditions, Accepted, unrefused-accepted, accepted-loads, held-read, held-accepted, bounded-held}
-use Rattle.store.specs.Layout.{capacity, held_by}
-use Rattle.store.specs.Settle.{Settled, Openable}
-use Rattle.store.proofs.Worlds.{held-allowed}
+use Rattle.pool.specs.Layout.{capacity, held_by}
+use Rattle.pool.specs.Settle.{Settled, Openable}
+use Rattle.pool.proofs.Worlds.{held-allowed}
 use Rattle.interval_bit_set.specs.Met.{fed_of, full_at, outcome_of, Readable, Met}
 use Rattle.interval_bit_set.proofs.Meeting.{readable, met_by, settled_same, settled-as}
 use Rattle.interval_bit_set.proofs.Changing.{fits-few}

@@ -20,9 +20,9 @@ use Rattle.run_index.proofs.Trees.{leaf-at, rep_pos, rep-room, rep-ordered, rep-
 use Rattle.run_index.proofs.Heap.{View}
 use Rattle.run_index.proofs.Strings.{times-append, length_both, count-felled, length-felled, strung-kept, strung-append}
 use Rattle.run_index.proofs.Felling.{right-stays, root-room, felled-all}
-use Rattle.store.specs.declared.World.{World}
-use Rattle.store.specs.declared.Links.{Links}
-use Rattle.store.specs.Layout.{
+use Rattle.pool.specs.declared.World.{World}
+use Rattle.pool.specs.declared.Links.{Links}
+use Rattle.pool.specs.Layout.{
   opened_at,
   free_head,
   record_at,
@@ -33,15 +33,15 @@ use Rattle.store.specs.Layout.{
   Headed,
   held_by,
 }
-use Rattle.store.specs.Soundness.{Share, Kept, Standing, share_of, Sound}
-use Rattle.store.specs.Settle.{Settled, Closing}
-use Rattle.store.proofs.Parts.{back, lent-nodes, back-nodes, back-front, back_long, cells-before}
-use Rattle.store.proofs.Nodes.{node-once, no_zero, few-runs, kept-still}
-use Rattle.store.proofs.Emptying.{vacant_world, vacant-standing, rootless-empty, empty-stretches}
-use Rattle.store.proofs.Turn.{pool-past}
-use Rattle.store.proofs.Worlds.{sound-length, sound-room, world-standing}
-use Rattle.store.proofs.Cells.{headed-there}
-use Rattle.store.proofs.Closing.{closes}
+use Rattle.pool.specs.Soundness.{Footprint, Represents, Standing, footprint_of, Sound}
+use Rattle.pool.specs.Settle.{Settled, Closing}
+use Rattle.pool.proofs.Parts.{back, lent-nodes, back-nodes, back-front, back_long, cells-before}
+use Rattle.pool.proofs.Nodes.{node-once, no_zero, few-runs, kept-still}
+use Rattle.pool.proofs.Emptying.{vacant_world, vacant-standing, rootless-empty, empty-stretches}
+use Rattle.pool.proofs.Turn.{pool-past}
+use Rattle.pool.proofs.Worlds.{sound-length, sound-room, world-standing}
+use Rattle.pool.proofs.Cells.{headed-there}
+use Rattle.pool.proofs.Closing.{closes}
 
 -- ---- the nodes of a tree
 module _ (n a b : ℕ) (l r : Tree) (w : List ℕ) (g k : ℕ) (h : Rep w g (node n a b l r)) (once : Distinct (node n a b l r)) (few : runs l + runs r + 1 < 2 ^ 62) where
@@ -80,8 +80,8 @@ fells (node n a b l r) w g k h once few =
     (n, stored q.1 n (free_cell q.0), root-too n a b l r w g k h once few p.0 p.1 q.0 q.1 p.2 q.2)
 
 -- a kept tree, felled in front of the free chain, leaves a kept world without a node
-felled-kept : {w w' : List ℕ} {s : Share} {x : Links} {t : Tree} {ns : List ℕ} {f : ℕ} → Kept w s x t ns → Felled w w' f x.free t
-    → Kept w' s (record { tag = x.tag; root = 0; free = f }) leaf (felled t ++ ns)
+felled-kept : {w w' : List ℕ} {s : Footprint} {x : Links} {t : Tree} {ns : List ℕ} {f : ℕ} → Represents w s x t ns → Felled w w' f x.free t
+    → Represents w' s (record { tag = x.tag; root = 0; free = f }) leaf (felled t ++ ns)
 felled-kept {w} {w'} {s} {x} {t} {ns} {f} k fe = record {
   sized = fe.long ∙ k.sized;
   few = k.few;
@@ -110,7 +110,7 @@ vacant j f = vacant_world (record { tag = j; root = 0; free = f })
 
 module _ (w : List ℕ) (j : ℕ) (S : Sound w) (l : j < opened_at w) where
   -- the world as it stands
-  abbrev was : Standing (nodes w) (share_of w j) (world_at w j)
+  abbrev was : Standing (nodes w) (footprint_of w j) (world_at w j)
   was = world-standing S j l
 
   -- there are such words

@@ -13,7 +13,7 @@ use Rattle.model.proofs.Deepest.{deepest-words}
 use Rattle.model.specs.Refusals.{refusal}
 use Rattle.model.specs.Call.{deepest, written, gave}
 use Rattle.model.specs.Pools.{PlainWorld, settle_measured, measure_conditions, measure_by}
-use Rattle.store.specs.Layout.{capacity, worlds_of}
+use Rattle.pool.specs.Layout.{capacity, worlds_of}
 use Rattle.interval_bit_set.specs.Met.{measured_of, Measured}
 use Rattle.interval_bit_set.proofs.Putting.{take-front}
 

@@ -21,8 +21,8 @@ use Rattle.model.specs.Converting.{document_one_refusal}
 use Rattle.model.proofs.Codec.{decode-words}
 use Rattle.model.proofs.Converting.{columns-refused}
 use Rattle.model.proofs.RoundTrips.{Accepted, accepted-bytes, held-read, held-accepted, bounded-held}
-use Rattle.store.specs.Layout.{allowance, worlds_of}
-use Rattle.store.specs.Settle.{Settled}
+use Rattle.pool.specs.Layout.{allowance, worlds_of}
+use Rattle.pool.specs.Settle.{Settled}
 use Rattle.union.proofs.Fating.{fates-length, ordered-fates}
 use Rattle.interval_bit_set.specs.Met.{fed_of, full_at, outcome_of, Readable, Met}
 use Rattle.interval_bit_set.proofs.Refusing.{none_before, refused_full}

@@ -36,9 +36,9 @@ use Rattle.model.specs.Call.{
   gave,
 }
 use Rattle.model.specs.Pools.{PlainWorld, step, answers, after}
-use Rattle.store.specs.Layout.{capacity_of, capacity, worlds_of}
-use Rattle.store.specs.Free.{Pooled}
-use Rattle.store.proofs.Whole.{sound_b-no}
+use Rattle.pool.specs.Layout.{capacity_of, capacity, worlds_of}
+use Rattle.pool.specs.Free.{Pooled}
+use Rattle.pool.proofs.Whole.{sound_b-no}
 use Rattle.interval_bit_set.specs.Met.{Site, fed_at, outcome_of, Leaves, Met, MakeLeaves, Made, Measured}
 use Rattle.interval_bit_set.specs.Out.{Unwritten, Unmended}
 use Rattle.interval_bit_set.proofs.Meeting.{refused-not}

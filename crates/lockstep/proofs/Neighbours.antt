@@ -9,7 +9,7 @@ use Rattle.model.specs.Positions.{Positions}
 use Rattle.model.specs.Call.{Fed, Call, feed, Answer}
 use Rattle.model.specs.Model.{serve}
 use Rattle.model.specs.Pools.{PlainWorld, world_of, fed_by, claim, other_claims, exceeds, full, with_positions, holding_at, serve_at, step}
-use Rattle.store.specs.Layout.{worlds_of}
+use Rattle.pool.specs.Layout.{worlds_of}
 use Rattle.interval_bit_set.specs.Met.{Site, fed_at, Met}
 use Rattle.interval_bit_set.proofs.Simulation.{Holds, answer-is, step-holds}
 use Rattle.lockstep.specs.Beside.{Neighbours, Beside}

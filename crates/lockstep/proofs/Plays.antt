@@ -7,7 +7,7 @@ use mathlib.Core.List.{List, [], ◌∷◌, map}
 use Rattle.model.specs.declared.Limits.{Limits}
 use Rattle.model.specs.Call.{Fed}
 use Rattle.model.specs.Pools.{PlainWorld, empty_worlds}
-use Rattle.store.specs.Layout.{capacity_of, worlds_of}
+use Rattle.pool.specs.Layout.{capacity_of, worlds_of}
 use Rattle.interval_bit_set.specs.Met.{Site}
 use Rattle.interval_bit_set.proofs.Simulation.{Holds}
 use Rattle.lockstep.specs.Plays.{Move, feed_move, fed, Heard, New, rest, move, Plays, left}

@@ -19,12 +19,12 @@ use Rattle.model.specs.Pools.{PlainWorld, claims, other_claims, exceeds, full, e
 use Rattle.model.proofs.Pools.{holding-here}
 use Rattle.model.proofs.Runs.{stretches-cong}
 use Rattle.model.proofs.RoundTrips.{Accepted, accepted-bytes}
-use Rattle.store.specs.Layout.{capacity_of, capacity, opened_at, floor_at, ceiling_at, held_by, worlds_from, worlds_of}
-use Rattle.store.specs.Soundness.{Sound}
-use Rattle.store.specs.Settle.{Settled, Openable}
-use Rattle.store.proofs.Worlds.{held-allowed}
-use Rattle.store.proofs.Turn.{pool-past}
-use Rattle.store.proofs.WorldLists.{opened-world}
+use Rattle.pool.specs.Layout.{capacity_of, capacity, opened_at, floor_at, ceiling_at, held_by, worlds_from, worlds_of}
+use Rattle.pool.specs.Soundness.{Sound}
+use Rattle.pool.specs.Settle.{Settled, Openable}
+use Rattle.pool.proofs.Worlds.{held-allowed}
+use Rattle.pool.proofs.Turn.{pool-past}
+use Rattle.pool.proofs.WorldLists.{opened-world}
 use Rattle.interval_bit_set.specs.Met.{full_at, Met}
 use Rattle.interval_bit_set.proofs.Changing.{fits-few, bounded-is}
 use Rattle.interval_bit_set.proofs.Meeting.{make-done}

@@ -18,7 +18,7 @@ use Rattle.model.specs.Spawning.{ranges_of, entries_of, first_refused, why_full_
 use Rattle.model.specs.Refusals.{store_length, not_refused, output_short, ◌when◌, refusal, no_room}
 use Rattle.model.specs.Call.{why_full, written, Answer, refused, gave}
 use Rattle.model.specs.Pools.{settle_measured, stopped, measure_by}
-use Rattle.store.specs.Layout.{capacity, worlds_of}
+use Rattle.pool.specs.Layout.{capacity, worlds_of}
 use Rattle.union.specs.Entries.{In}
 use Rattle.why_full.specs.Placing.{Climbing}
 use Rattle.why_full.proofs.Ranges.{entries-length, listed-length, listed-words}

@@ -16,7 +16,7 @@ use Rattle.model.specs.Grid.{cell, one_valued, or_halves, by_row, survey}
 use Rattle.model.specs.Refusals.{off_plane, output_short, Condition, ◌when◌, refusal, bad_square, no_room}
 use Rattle.model.specs.Call.{Fed, wrong_length, unsound, unopened, holding, Call, written, gave}
 use Rattle.model.specs.Model.{positions_of, reads, settle, report}
-use Rattle.store.specs.Layout.{held_by}
+use Rattle.pool.specs.Layout.{held_by}
 use Rattle.grid.specs.Surveys.{OnGrid}
 use Rattle.grid.proofs.Alike.{alike-one, other-two, single-one}
 use Rattle.interval_bit_set.proofs.Planes.{square-on}

@@ -3,7 +3,7 @@
 use mathlib.Core.Path.{refl, sym, subst}
 use native.Mathlib.Nat.{le_trans}
 use Rattle.model.specs.Call.{why_full}
-use Rattle.store.specs.Settle.{Openable}
+use Rattle.pool.specs.Settle.{Openable}
 use Rattle.model.proofs.Cases
 use Rattle.model.proofs.Columns
 use Rattle.model.proofs.Worked
@@ -50,7 +50,7 @@ use Rattle.lockstep.proofs.Measuring.{list-long, list-is}
 use Rattle.lockstep.proofs.Surveys.{survey-parted}
 use Rattle.lockstep.proofs.Stopping.{many-are, rising-are, listed-are, refused-are, fewer-given, none-given, given-none, due-told, due-short}
 use Rattle.lockstep.proofs.Heights.{list-high, shorter-lower, further-given}
-use Rattle.store.proofs.Heights.{world-lower}
+use Rattle.pool.proofs.Heights.{world-lower}
 
 pub equal-bytes : Equal-bytes
 equal-bytes e w i v j bs cs W X = written-alike W X

@@ -17,11 +17,11 @@ use Rattle.model.specs.Call.{Fed, wrong_length, unsound, unopened, holding, Call
 use Rattle.model.specs.Model.{positions_of, reads, settle, report, write, serve}
 use Rattle.model.proofs.Codec.{encode-length}
 use Rattle.model.proofs.RoundTrips.{written-whole, bytes-tell}
-use Rattle.store.specs.Layout.{capacity, held_by}
-use Rattle.store.specs.Settle.{Openable}
-use Rattle.store.proofs.Turn.{pool-past}
-use Rattle.store.proofs.Nodes.{sized-length}
-use Rattle.store.proofs.Worlds.{claims-fit}
+use Rattle.pool.specs.Layout.{capacity, held_by}
+use Rattle.pool.specs.Settle.{Openable}
+use Rattle.pool.proofs.Turn.{pool-past}
+use Rattle.pool.proofs.Nodes.{sized-length}
+use Rattle.pool.proofs.Worlds.{claims-fit}
 use Rattle.interval_bit_set.specs.Met.{fed_of, full_at, outcome_of, Readable, Met}
 use Rattle.interval_bit_set.specs.Out.{WritesOut}
 use Rattle.interval_bit_set.proofs.Meeting.{refused-not, readable, met_by, settled_same}

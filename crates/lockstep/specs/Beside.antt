@@ -2,7 +2,7 @@
 use Rattle.std.specs.Prelude.{ℕ, ◌≡◌, List, [], ◌∷◌}
 use Rattle.model.specs.Call.{Call, feed, Answer}
 use Rattle.model.specs.Pools.{other_claims}
-use Rattle.store.specs.Layout.{worlds_of}
+use Rattle.pool.specs.Layout.{worlds_of}
 use Rattle.interval_bit_set.specs.Met.{Site, fed_at, Met}
 
 -- calls on worlds other than i led from the words w to the words w'

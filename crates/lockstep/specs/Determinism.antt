@@ -8,7 +8,7 @@ use Rattle.model.specs.Positions.{Positions}
 use Rattle.model.specs.RunList.{AllBytes}
 use Rattle.model.specs.Call.{Call, done, gave}
 use Rattle.model.specs.Pools.{PlainWorld, world_of, empty_worlds}
-use Rattle.store.specs.Layout.{capacity, worlds_of}
+use Rattle.pool.specs.Layout.{capacity, worlds_of}
 use Rattle.interval_bit_set.specs.Met.{Site, Met}
 use Rattle.interval_bit_set.specs.Out.{WritesOut}
 use Rattle.lockstep.specs.Plays.{Move, fed, Heard, New, Plays, left, worlds_after, Follows}

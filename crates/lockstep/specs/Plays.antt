@@ -11,7 +11,7 @@ use Rattle.model.specs.Refusals.{output_short, ◌when◌, refusal, no_room}
 use Rattle.model.specs.Call.{Fed, Call, Measure, PoolCall, make, measure, at, feed_pool}
 use Rattle.model.specs.Call.{Result, done, drawn, written, mended, Answer, refused, gave}
 use Rattle.model.specs.Pools.{PlainWorld, PoolOutcome, step, answers, after}
-use Rattle.store.specs.Layout.{capacity, worlds_of}
+use Rattle.pool.specs.Layout.{capacity, worlds_of}
 use Rattle.interval_bit_set.specs.Met.{Site, fed_at, Met, Made}
 use Rattle.interval_bit_set.specs.Out.{WritesOut, WritesMeasured, Mends}
 use Rattle.interval_bit_set.specs.Lent.{item_answer, Draws}

@@ -24,8 +24,8 @@ use Rattle.model.specs.Mending.{mended_positions}
 use Rattle.model.specs.Deepest.{least, deepest_runs, deepest_words}
 use Rattle.model.specs.Converting.{convert, document_one_refusal}
 use Rattle.run_index.specs.Tree.{height}
-use Rattle.store.specs.Layout.{capacity, allowance, opened_at, floor_at, held_by, worlds_of, world_at, tree_at}
-use Rattle.store.specs.Soundness.{runs_at, Sound}
+use Rattle.pool.specs.Layout.{capacity, allowance, opened_at, floor_at, held_by, worlds_of, world_at, tree_at}
+use Rattle.pool.specs.Soundness.{runs_at, Sound}
 use Rattle.union.specs.Entries.{In}
 use Rattle.why_full.specs.Placing.{Climbing}
 use Rattle.interval_bit_set.specs.Met.{Site, fed_at, fed_of, Leaves, Met, Measured}

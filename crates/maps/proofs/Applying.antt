@@ -10,12 +10,12 @@ use Rattle.model.specs.Positions.{Positions, stretches, set_range, changes}
 use Rattle.model.proofs.Runs.{stretches-cong}
 use Rattle.model.specs.Bytes.{map_bit, mapped}
 use Rattle.model.proofs.After.{set-inside, set_below, set-above, set-cong}
-use Rattle.store.specs.declared.World.{World}
-use Rattle.store.specs.Layout.{held_in}
-use Rattle.store.specs.Soundness.{Share, Limited, Editable}
-use Rattle.store.specs.Settle.{Became}
-use Rattle.store.proofs.Nodes.{still-then, still-same}
-use Rattle.store.proofs.Settling.{became-limited}
+use Rattle.pool.specs.declared.World.{World}
+use Rattle.pool.specs.Layout.{held_in}
+use Rattle.pool.specs.Soundness.{Footprint, Limited, Editable}
+use Rattle.pool.specs.Settle.{Became}
+use Rattle.pool.proofs.Nodes.{still-then, still-same}
+use Rattle.pool.proofs.Settling.{became-limited}
 use Rattle.reports.specs.Reports.{StretchEnd}
 use Rattle.changes.specs.Edits.{Makes, Edited, Appliable}
 use Rattle.maps.specs.declared.stretches.Stretch.{Stretch}
@@ -27,11 +27,11 @@ use Rattle.maps.proofs.OnTheWay.{on-the-way, at-the-start}
 
 -- ---- what a change makes
 -- a world that stays, and holds what is asked
-stays : {w : List ℕ} {s : Share} {h : World} {limit : ℕ} {Q : Positions} → Limited w s h limit → ((x : ℕ) → x < size → held_in w h x ≡ Q x) → Became w w s h Q
+stays : {w : List ℕ} {s : Footprint} {h : World} {limit : ℕ} {Q : Positions} → Limited w s h limit → ((x : ℕ) → x < size → held_in w h x ≡ Q x) → Became w w s h Q
 stays l f = record { shows = record { standing = l.standing; holds = f }; still = still-same }
 
 -- one change after another, and what is held in the end
-became-then : {w w₁ w₂ : List ℕ} {s : Share} {k₁ k₂ : World} {P Q R : Positions} → Became w w₁ s k₁ P → Became w₁ w₂ s k₂ Q → ((x : ℕ) → x < size → Q x ≡ R x)
+became-then : {w w₁ w₂ : List ℕ} {s : Footprint} {k₁ k₂ : World} {P Q R : Positions} → Became w w₁ s k₁ P → Became w₁ w₂ s k₂ Q → ((x : ℕ) → x < size → Q x ≡ R x)
     → Became w w₂ s k₂ R
 became-then b c f = record {
   shows = record { standing = c.shows.standing; holds = λ x l. c.shows.holds x l ∙ f x l };
@@ -93,8 +93,8 @@ pub record Applying (w₁ w : List ℕ) (a₁ a : World) (base n : ℕ) (bs : Li
   pub cleared : (x : ℕ) → base ≤ x → x < base + n → held_in w₁ a₁ x ≡ false
   pub upto : i ≤ n
   pub border : Border bs n i
-  pub reads : (s : Share) (limit : ℕ) → Limited w₁ s a₁ limit → stretches (mapped base n bs (held_in w₁ a₁)) ≤ limit → Became w₁ w s a (mapped base i bs (held_in w₁ a₁))
-  pub keeps : (s : Share) (limit : ℕ) → Limited w₁ s a₁ limit → stretches (mapped base n bs (held_in w₁ a₁)) ≤ limit → Limited w s a limit
+  pub reads : (s : Footprint) (limit : ℕ) → Limited w₁ s a₁ limit → stretches (mapped base n bs (held_in w₁ a₁)) ≤ limit → Became w₁ w s a (mapped base i bs (held_in w₁ a₁))
+  pub keeps : (s : Footprint) (limit : ℕ) → Limited w₁ s a₁ limit → stretches (mapped base n bs (held_in w₁ a₁)) ≤ limit → Limited w s a limit
 
 -- clearing the window
 module _ {w : List ℕ} {h : World} {base n : ℕ} {bs : List ℕ} {e : ℕ} {u : Interval} (m : MayMap w h base n bs) (p : Part base 0 (n - 1) u)
@@ -141,7 +141,7 @@ module _ {w : List ℕ} {h : World} {base n : ℕ} {bs : List ℕ} {e : ℕ} {u 
     same-leaves = stretches-cong (mapped base n bs (held_in w₁ a₁)) (mapped base n bs (held_in w h)) same_read
 
     -- the world is within its limit
-    then-limited : (s : Share) (limit : ℕ) → Limited w s h limit → stretches (mapped base n bs (held_in w h)) ≤ limit → Limited w₁ s a₁ limit
+    then-limited : (s : Footprint) (limit : ℕ) → Limited w s h limit → stretches (mapped base n bs (held_in w h)) ≤ limit → Limited w₁ s a₁ limit
     then-limited s limit l f = became-limited l (g s limit l (omega (arith, clear-leaves))) (omega (arith, clear-leaves))
 
     -- of no bit

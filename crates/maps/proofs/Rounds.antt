@@ -8,7 +8,7 @@ use Rattle.model.specs.Positions.{inside}
 use Rattle.model.specs.Bytes.{map_bit}
 use Rattle.model.proofs.Numbers.{split}
 use Rattle.model.proofs.Counting.{inside-yes, inside-below, inside-above}
-use Rattle.store.specs.Places.{physical_of, logical_of}
+use Rattle.pool.specs.Places.{physical_of, logical_of}
 use Rattle.maps.specs.Painted.{Paints, round, PaintsRun}
 use Rattle.maps.specs.Window.{place_in}
 

@@ -20,15 +20,15 @@ use Rattle.run_index.specs.Tree.{Tree, leaf, node, count, inorder, Rep}
 use Rattle.run_index.specs.Strung.{times}
 use Rattle.run_index.proofs.Trees.{δ-same, δ-other, rep-cell, rep-left, rep-right}
 use Rattle.run_index.proofs.Apart.{rep-tagged}
-use Rattle.store.specs.declared.World.{World}
-use Rattle.store.specs.Places.{physical_of, logical_of}
-use Rattle.store.specs.Layout.{held_in}
-use Rattle.store.specs.Soundness.{Share}
-use Rattle.store.proofs.Chains.{chain-free, free-low}
-use Rattle.store.proofs.Orders.{Node-in, node_in}
-use Rattle.store.proofs.Reached.{kept-held}
-use Rattle.store.proofs.Truths.{same}
-use Rattle.store.proofs.Turn.{turned-at}
+use Rattle.pool.specs.declared.World.{World}
+use Rattle.pool.specs.Places.{physical_of, logical_of}
+use Rattle.pool.specs.Layout.{held_in}
+use Rattle.pool.specs.Soundness.{Footprint}
+use Rattle.pool.proofs.Chains.{chain-free, free-low}
+use Rattle.pool.proofs.Orders.{Node-in, node_in}
+use Rattle.pool.proofs.Reached.{kept-held}
+use Rattle.pool.proofs.Truths.{same}
+use Rattle.pool.proofs.Turn.{turned-at}
 use Rattle.maps.specs.Painted.{round, shows, shown_to, PaintsRun, PaintsNodes, Scans}
 use Rattle.maps.specs.Window.{place_in}
 use Rattle.maps.proofs.Rounds.{turned-inside}
@@ -127,7 +127,7 @@ shown-in w g p (suc k) m h l e = go (ℕ_discrete m (suc k)) (shown-in w g p k m
     go (no ne) r = rw (r (omega arith) e)
 
 -- ---- the nodes of a world
-module _ {w : List ℕ} {s : Share} {h : World} (c : Scans w s h) where
+module _ {w : List ℕ} {s : Footprint} {h : World} (c : Scans w s h) where
   -- as many nodes as there are
   pub scan-nodes : length w / 8 - 1 ≡ s.nodes
   scan-nodes = let z = c.standing.kept.sized in omega arith
@@ -217,7 +217,7 @@ module _ {w : List ℕ} {h : World} {base n m : ℕ} {map₀ map : List ℕ} (p 
   nodes-other e l x = nodes-skip x (λ q. shows-other w h.tag q m (λ k. l (ap (λ (u : Node). u.tag) e ∙ k)))
 
   -- a node of the world: its run is painted
-  pub nodes-run : {map₁ map' : List ℕ} {s : Share} {v : Node} {f l : ℕ} → Scans w s h → m ≤ s.nodes → v ≡ cell_at w m
+  pub nodes-run : {map₁ map' : List ℕ} {s : Footprint} {v : Node} {f l : ℕ} → Scans w s h → m ≤ s.nodes → v ≡ cell_at w m
       → 0 < v.height → v.tag ≡ h.tag → h.offset < 2 ^ 64 → base + n ≤ size → f ≡ place_in base (logical_of v.start h.offset)
       → l ≡ place_in base (logical_of v.«end» h.offset) → PaintsRun map map₁ n f l → map' ≡ map₁ → PaintsNodes w h base n m map₀ map'
   nodes-run {map₁} {map'} {s} {v} {f} {l} c few e high tagged os within fs ls r x =
@@ -242,7 +242,7 @@ nodes-at {w} {h} {base} {n} {map = map} {map' = map'} p e = subst (λ (x : ℕ).
 
 -- ---- the map
 -- painted into zeros it is the world's
-pub nodes-map : {w : List ℕ} {s : Share} {h : World} {base n : ℕ} {map₀ map : List ℕ} → Scans w s h → base + n ≤ size → AllBytes map → length map ≡ map_length n
+pub nodes-map : {w : List ℕ} {s : Footprint} {h : World} {base n : ℕ} {map₀ map : List ℕ} → Scans w s h → base + n ≤ size → AllBytes map → length map ≡ map_length n
     → ((i : ℕ) → map_bit map₀ i ≡ false) → PaintsNodes w h base n (length w / 8 - 1) map₀ map → map ≡ map_of (held_in w h) base n
 nodes-map {w} {s} {h} {base} {n} {map₀} {map} c within bytes long zeros p =
     map-tell map (map_of (held_in w h) base n) bytes (map_of-bytes (held_in w h) base n) (long ∙ sym (map_of-length (held_in w h) base n)) (λ i. go i (split i n))

@@ -3,9 +3,9 @@ use Rattle.std.specs.Prelude.{◌≡◌, ℕ, zero, suc, ◌+◌, ◌*◌, ◌/�
 use Rattle.model.specs.Positions.{inside}
 use Rattle.model.specs.Bytes.{bits, map_bit}
 use Rattle.run_index.specs.Cells.{cell_at}
-use Rattle.store.specs.declared.World.{World}
-use Rattle.store.specs.Places.{physical_of}
-use Rattle.store.specs.Soundness.{Share, Apart, Standing}
+use Rattle.pool.specs.declared.World.{World}
+use Rattle.pool.specs.Places.{physical_of}
+use Rattle.pool.specs.Soundness.{Footprint, Apart, Standing}
 
 -- ---- words
 -- the k bytes from j on are the low bits of v, the lowest in the first of them, and the others are as they were
@@ -52,9 +52,9 @@ pub record PaintsNodes (w : List ℕ) (h : World) (base n m : ℕ) (map map' : L
   pub long : length map' ≡ length map
 
 -- a world whose nodes are told by their tag
-pub record Scans (w : List ℕ) (s : Share) (h : World) : Type 0 where
+pub record Scans (w : List ℕ) (s : Footprint) (h : World) : Type 0 where
   pub standing : Standing w s h
   pub apart : Apart w s
 
 abbrev pub Scannable : List ℕ → World → Type 0
-Scannable w h = (s : Share) × Scans w s h
+Scannable w h = (s : Footprint) × Scans w s h

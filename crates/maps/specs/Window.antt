@@ -4,9 +4,9 @@ use Rattle.model.specs.declared.between.Interval.{Interval}
 use Rattle.model.specs.Numbers.{size, longest}
 use Rattle.model.specs.Positions.{Positions, one_if, run_count, stretches, changes}
 use Rattle.model.specs.Bytes.{bits, map_bit, mapped, map_length}
-use Rattle.store.specs.declared.World.{World}
-use Rattle.store.specs.Layout.{held_in}
-use Rattle.store.specs.Soundness.{Share, Limited}
+use Rattle.pool.specs.declared.World.{World}
+use Rattle.pool.specs.Layout.{held_in}
+use Rattle.pool.specs.Soundness.{Footprint, Limited}
 use Rattle.maps.specs.declared.read.Survey.{Survey}
 
 -- n positions from base on, and the bytes of their map
@@ -34,10 +34,10 @@ pub record Surveyed (P : Positions) (base n : ℕ) (bs : List ℕ) (s : Survey) 
   pub changed-are : s.changed ≡ changes P (mapped base n bs P)
 
 -- a window of a world may get the map's values: at most as many runs are left as the world may have
-pub record Fits (w : List ℕ) (s : Share) (h : World) (limit base n : ℕ) (bs : List ℕ) : Type 0 where
+pub record Fits (w : List ℕ) (s : Footprint) (h : World) (limit base n : ℕ) (bs : List ℕ) : Type 0 where
   pub limited : Limited w s h limit
   pub window : MapOfWindow base n bs
   pub few : stretches (mapped base n bs (held_in w h)) ≤ limit
 
 abbrev pub MayMap : List ℕ → World → ℕ → ℕ → List ℕ → Type 0
-MayMap w h base n bs = (s : Share) × (limit : ℕ) × Fits w s h limit base n bs
+MayMap w h base n bs = (s : Footprint) × (limit : ℕ) × Fits w s h limit base n bs

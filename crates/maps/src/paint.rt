@@ -4,12 +4,12 @@
 // struct: beside their order each function asks another bound of the last one, which depends on the map and which no struct could keep.
 ghost use Rattle.std.specs.Prelude.{◌≡◌, ◌+◌, ◌-◌, ◌*◌, ◌/◌, ◌^◌, ◌<◌, ◌≤◌, length};
 ghost use Rattle.model.specs.Bytes.{map_of, map_length};
-ghost use Rattle.store.specs.Layout.{held_in};
+ghost use Rattle.pool.specs.Layout.{held_in};
 ghost use Rattle.maps.specs.Painted.{Adds, Paints, PaintsRun, PaintsNodes, Scannable};
 
 use crate::window::Window;
-use store::World;
-use store::places::{Physical, to_logical};
+use pool::World;
+use pool::places::{Physical, to_logical};
 
 // The bits from..=63 of a word, and those up to `to`.
 fn from_bit(from: u64) -> u64

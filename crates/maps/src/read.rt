@@ -3,8 +3,8 @@
 ghost use Rattle.std.specs.Prelude.{◌≡◌, nat_le};
 ghost use Rattle.model.specs.Positions.{stretches};
 ghost use Rattle.model.specs.Bytes.{mapped};
-ghost use Rattle.store.specs.Layout.{held, held_in};
-ghost use Rattle.store.specs.Soundness.{Editable};
+ghost use Rattle.pool.specs.Layout.{held, held_in};
+ghost use Rattle.pool.specs.Soundness.{Editable};
 ghost use Rattle.changes.specs.Edits.{Makes, Edited};
 ghost use Rattle.maps.specs.Window.{Surveyed, MayMap};
 
@@ -12,7 +12,7 @@ use crate::stretches::{Stretches, bit, stretch_end};
 use crate::window::Map;
 use changes::edit::Edit;
 use model::Count;
-use store::{Set, World};
+use pool::{Set, World};
 
 // What a map says of a window: how many runs are in it, and how many positions of the world it changes.
 #[derive(Clone, Copy)]
@@ -42,7 +42,7 @@ fn map_fits(words: &[u64], h: World, limit: u64, map: &Map, s: Survey) -> bool
 {
     let last = map.window.n - 1;
     let whole = map.window.part(0, last);
-    let set = store::set_of(words, h);
+    let set = pool::set_of(words, h);
     let outside = changes::edit::around(&set, h.runs, whole).outside;
     // a run of the map that ends with the window is one with the run of the neighbour there
     let before = bit(map.bytes, 0) && changes::edit::held_before(&set, whole.first);
@@ -80,7 +80,7 @@ pub fn read_map<const WIDE: bool>(
     requires editable { Editable words.old h limit }
     ensures { Edited words.old words.new h limit (mapped map.now.window.base map.now.window.n map.now.bytes.now (held_in words.old h)) result }
 {
-    let s = survey_map::<WIDE>(&store::set_of(words, h), map);
+    let s = survey_map::<WIDE>(&pool::set_of(words, h), map);
     let changed = Count {
         carry: 0,
         low: s.changed,

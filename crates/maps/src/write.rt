@@ -5,14 +5,14 @@ ghost use Rattle.std.specs.Prelude.{◌≡◌, ◌+◌, ◌-◌, ◌*◌, ◌/�
 ghost use Rattle.model.specs.Numbers.{size};
 ghost use Rattle.model.specs.Positions.{one_if};
 ghost use Rattle.model.specs.Bytes.{map_of, map_length, into_front};
-ghost use Rattle.store.specs.Layout.{held_in};
-ghost use Rattle.store.specs.Soundness.{Stands};
+ghost use Rattle.pool.specs.Layout.{held_in};
+ghost use Rattle.pool.specs.Soundness.{Stands};
 ghost use Rattle.maps.specs.Painted.{Scannable};
 ghost use Rattle.maps.specs.Octets.{Placed, Octets, stores, BytesDue, StoresNext};
 
 use crate::window::Window;
 use model::Logical;
-use store::World;
+use pool::World;
 use streams::source::View;
 use streams::sweep::Cursor;
 

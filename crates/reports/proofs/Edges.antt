@@ -7,7 +7,7 @@ use Rattle.model.specs.declared.Run.{Run}
 use Rattle.model.specs.Numbers.{size}
 use Rattle.model.specs.Positions.{Positions, mem}
 use Rattle.model.specs.RunList.{Canon, last_up_to, first_from}
-use Rattle.store.proofs.Nearby.{Before, Earlier, earlier, Later, later}
+use Rattle.pool.proofs.Nearby.{Before, Earlier, earlier, Later, later}
 use Rattle.reports.specs.Reports.{Next, Previous, start_of}
 
 -- a position of the value is the next one from itself on

@@ -13,7 +13,7 @@ use Rattle.model.proofs.Finds.{find_runs, count_runs, select-runs, select-is, se
 use Rattle.model.specs.RunList.{Canon}
 use Rattle.model.proofs.RunList.{mem_below, mem-past, widths}
 use Rattle.model.proofs.Search.{canon-split}
-use Rattle.store.proofs.Ends.{empty-mem}
+use Rattle.pool.proofs.Ends.{empty-mem}
 
 -- the other value
 beq-no : (b v : Bool) → beq b v ≡ false → b ≡ not v

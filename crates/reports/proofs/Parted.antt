@@ -4,10 +4,10 @@ use Rattle.std.specs.Prelude.{option_map}
 use Rattle.std.proofs.Common.{◌≡◌, ℕ, ◌+◌, ◌-◌, ◌<◌, ◌≤◌, Bool, ap, ◌∙◌, arith}
 use Rattle.model.specs.Numbers.{size}
 use Rattle.model.specs.Positions.{Positions, count, select, runs_in, last_run}
-use Rattle.store.specs.Layout.{turned}
+use Rattle.pool.specs.Layout.{turned}
 use Rattle.model.proofs.Moved.{move, move_run, count-moved, last_run-moved, select-moved}
-use Rattle.store.proofs.Turn.{Lies, parted-length}
-use Rattle.store.proofs.Turn.{parted-first, parted-second}
+use Rattle.pool.proofs.Turn.{Lies, parted-length}
+use Rattle.pool.proofs.Turn.{parted-first, parted-second}
 use Rattle.reports.proofs.Joins.{select-first, select-second}
 
 module _ {o a n s e : ℕ} (lies : Lies o a n s e) (parted : e < s) (Q : Positions) (v : Bool) where

@@ -5,7 +5,7 @@ use Rattle.std.proofs.Common.{◌≡◌, ℕ, zero, suc, ◌+◌, ◌-◌, ◌*�
 use Rattle.std.proofs.Common.{Some, refl, ap, ◌∙◌, subst, ap₂, inl, inr, add-zero, arith, le-ltb, lt-ltb}
 use mathlib.Core.Bool.{beq}
 use mir.Val.{bool_byte}
-use Rattle.store.proofs.Truths.{byte-one}
+use Rattle.pool.proofs.Truths.{byte-one}
 use Rattle.model.specs.declared.Run.{Run}
 use Rattle.model.specs.declared.Count.{Count}
 use Rattle.model.specs.declared.Tally.{Tally}

@@ -13,15 +13,15 @@ use Rattle.model.specs.Positions.{Positions, one_if, count, select, runs_in, run
 use Rattle.model.proofs.Counting.{count_cut, count_most}
 use Rattle.model.proofs.Runs.{runs_in-canon}
 use Rattle.model.proofs.Finds.{Selected, select-only, select-none}
-use Rattle.store.specs.Places.{physical_of, logical_of}
-use Rattle.store.specs.Layout.{turned}
-use Rattle.store.specs.declared.places.Physical.{Physical}
+use Rattle.pool.specs.Places.{physical_of, logical_of}
+use Rattle.pool.specs.Layout.{turned}
+use Rattle.pool.specs.declared.places.Physical.{Physical}
 use Rattle.reports.specs.Reports.{Measured, Place}
-use Rattle.store.proofs.Truths.{byte-one}
+use Rattle.pool.proofs.Truths.{byte-one}
 use Rattle.reports.proofs.Ranks.{canon-most}
 use Rattle.model.proofs.Moved.{move}
-use Rattle.store.proofs.Turn.{Lies, turned-at, whole_length, whole-move, parted-move-first, parted-move-second, first_below}
-use Rattle.store.proofs.Turn.{count-whole, count-parted, run_count-whole, run_count-parted, select-whole}
+use Rattle.pool.proofs.Turn.{Lies, turned-at, whole_length, whole-move, parted-move-first, parted-move-second, first_below}
+use Rattle.pool.proofs.Turn.{count-whole, count-parted, run_count-whole, run_count-parted, select-whole}
 use Rattle.reports.proofs.Joins.{select-first}
 use Rattle.reports.proofs.Parted.{select-in-first, select-in-second}
 

@@ -5,10 +5,10 @@ use Rattle.std.proofs.Common.{◌≡◌, ℕ, suc, ◌+◌, ◌-◌, ◌<◌, �
 use Rattle.model.specs.Numbers.{size}
 use Rattle.model.proofs.Numbers.{split}
 use Rattle.model.specs.Positions.{Positions}
-use Rattle.store.specs.Places.{physical_of, logical_of}
-use Rattle.store.specs.Layout.{turned}
+use Rattle.pool.specs.Places.{physical_of, logical_of}
+use Rattle.pool.specs.Layout.{turned}
 use Rattle.reports.specs.Reports.{Next, Previous}
-use Rattle.store.proofs.Turn.{
+use Rattle.pool.proofs.Turn.{
   Lies,
   lies-from-to,
   turned-at,

@@ -6,7 +6,7 @@ use Rattle.model.specs.declared.Logical.{Logical}
 use Rattle.model.specs.declared.Tally.{Tally}
 use Rattle.model.specs.Numbers.{size, worth}
 use Rattle.model.specs.Positions.{Positions, count, select, run_count}
-use Rattle.store.specs.declared.places.Physical.{Physical}
+use Rattle.pool.specs.declared.places.Physical.{Physical}
 
 -- the numbers of positions that were found
 abbrev pub logical_number : Option Logical → Option ℕ

@@ -4,30 +4,30 @@
 ghost use Rattle.std.specs.Prelude.{◌≡◌, suc, ◌+◌, ◌-◌, ◌<◌, ◌≤◌};
 ghost use Rattle.model.specs.Positions.{mem};
 ghost use Rattle.model.specs.Range.{many};
-ghost use Rattle.store.specs.Layout.{held};
+ghost use Rattle.pool.specs.Layout.{held};
 ghost use Rattle.reports.specs.Reports.{logical_number, Measured, Place, Next, Previous, Selects};
 
 use crate::physical::Segment;
 use model::between::Interval;
 use model::{Logical, Tally};
+use pool::Set;
+use pool::places::Physical;
 use run_index::search::Runs;
-use store::Set;
-use store::places::Physical;
 
 // The value of a position.
 pub fn get(set: &Set<'_>, x: Logical) -> bool
     ensures { result ≡ held set.now x.0 }
 {
-    let s = store::places::to_physical(x, set.offset);
-    store::bounds::get_physical(&set.runs, s)
+    let s = pool::places::to_physical(x, set.offset);
+    pool::bounds::get_physical(&set.runs, s)
 }
 
 // The positions of the value in r, and its runs there, clipped. Runs that meet where the physical positions end are one run.
 pub fn tally(set: &Set<'_>, r: Interval, value: bool) -> Tally
     ensures { Measured (held set.now) value r.first.0 (many r) result }
 {
-    let first = store::places::to_physical(r.first, set.offset);
-    let last = store::places::to_physical(r.last, set.offset);
+    let first = pool::places::to_physical(r.first, set.offset);
+    let last = pool::places::to_physical(r.last, set.offset);
     if first.0 <= last.0 {
         return crate::physical::tally_physical(&set.runs, Segment { first, last }, value);
     }
@@ -41,8 +41,8 @@ pub fn tally(set: &Set<'_>, r: Interval, value: bool) -> Tally
     };
     let one = crate::physical::tally_physical(&set.runs, upper, value);
     let two = crate::physical::tally_physical(&set.runs, lower, value);
-    let low = store::bounds::get_physical(&set.runs, Physical(0));
-    let high = store::bounds::get_physical(&set.runs, Physical(u64::MAX));
+    let low = pool::bounds::get_physical(&set.runs, Physical(0));
+    let high = pool::bounds::get_physical(&set.runs, Physical(u64::MAX));
     let joined = high == value && low == value;
     Tally {
         count: one.count.plus(two.count),
@@ -65,8 +65,8 @@ fn chosen(runs: &Runs<'_>, s: Segment, value: bool, k: u64) -> Result<Physical, 
 pub fn select(set: &Set<'_>, r: Interval, value: bool, k: u64) -> Option<Logical>
     ensures { Selects (held set.now) value r.first.0 (many r) k (logical_number result) }
 {
-    let first = store::places::to_physical(r.first, set.offset);
-    let last = store::places::to_physical(r.last, set.offset);
+    let first = pool::places::to_physical(r.first, set.offset);
+    let last = pool::places::to_physical(r.last, set.offset);
     let place = if first.0 <= last.0 {
         chosen(&set.runs, Segment { first, last }, value, k)
     } else {
@@ -85,19 +85,19 @@ pub fn select(set: &Set<'_>, r: Interval, value: bool, k: u64) -> Option<Logical
         }
     };
     let p = place.ok()?;
-    Some(store::places::to_logical(p, set.offset))
+    Some(pool::places::to_logical(p, set.offset))
 }
 
 // The least position of the value at or after x. From x to M the set lies from x's place to M's, or from x's place on and from 0 to M's.
 pub fn next(set: &Set<'_>, x: Logical, value: bool) -> Option<Logical>
     ensures { Next (held set.now) value x.0 (logical_number result) }
 {
-    let s = store::places::to_physical(x, set.offset);
-    let top = store::places::to_physical(Logical(u64::MAX), set.offset);
+    let s = pool::places::to_physical(x, set.offset);
+    let top = pool::places::to_physical(Logical(u64::MAX), set.offset);
     match crate::physical::next_physical(&set.runs, s, value) {
-        Some(p) if top.0 < s.0 || p.0 <= top.0 => Some(store::places::to_logical(p, set.offset)),
+        Some(p) if top.0 < s.0 || p.0 <= top.0 => Some(pool::places::to_logical(p, set.offset)),
         None if top.0 < s.0 => match crate::physical::next_physical(&set.runs, Physical(0), value) {
-            Some(p) if p.0 <= top.0 => Some(store::places::to_logical(p, set.offset)),
+            Some(p) if p.0 <= top.0 => Some(pool::places::to_logical(p, set.offset)),
             _ => None,
         },
         _ => None,
@@ -109,16 +109,16 @@ pub fn next(set: &Set<'_>, x: Logical, value: bool) -> Option<Logical>
 pub fn previous(set: &Set<'_>, x: Logical, value: bool) -> Option<Logical>
     ensures { Previous (held set.now) value x.0 (logical_number result) }
 {
-    let s = store::places::to_physical(x, set.offset);
-    let zero = store::places::to_physical(Logical(0), set.offset);
+    let s = pool::places::to_physical(x, set.offset);
+    let zero = pool::places::to_physical(Logical(0), set.offset);
     match crate::physical::previous_physical(&set.runs, s, value) {
-        Some(p) if s.0 < zero.0 || zero.0 <= p.0 => Some(store::places::to_logical(p, set.offset)),
+        Some(p) if s.0 < zero.0 || zero.0 <= p.0 => Some(pool::places::to_logical(p, set.offset)),
         None if s.0 < zero.0 => match crate::physical::previous_physical(
             &set.runs,
             Physical(u64::MAX),
             value,
         ) {
-            Some(p) if zero.0 <= p.0 => Some(store::places::to_logical(p, set.offset)),
+            Some(p) if zero.0 <= p.0 => Some(pool::places::to_logical(p, set.offset)),
             _ => None,
         },
         _ => None,

@@ -7,8 +7,8 @@ ghost use Rattle.model.specs.RunList.{first_from};
 ghost use Rattle.reports.specs.Reports.{physical_number, Measured, Next, Previous, start_of};
 
 use model::{Count, Tally};
+use pool::places::Physical;
 use run_index::search::Runs;
-use store::places::Physical;
 
 // The physical positions from first to last, of which there is at least one.
 #[derive(Clone, Copy)]

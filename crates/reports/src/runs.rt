@@ -2,12 +2,12 @@
 ghost use Rattle.std.specs.Prelude.{◌≡◌};
 ghost use Rattle.model.specs.Positions.{first_run, last_run, runs_in, run_at, find};
 ghost use Rattle.model.specs.Range.{many};
-ghost use Rattle.store.specs.Layout.{held};
+ghost use Rattle.pool.specs.Layout.{held};
 ghost use Rattle.reports.specs.Reports.{logical_number, StretchStart, StretchEnd};
 
 use model::between::Interval;
 use model::{Logical, Run};
-use store::Set;
+use pool::Set;
 
 // The least position of the value in r.
 pub fn find_in(set: &Set<'_>, r: Interval, value: bool) -> Option<Logical>

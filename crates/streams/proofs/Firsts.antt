@@ -14,9 +14,9 @@ use Rattle.model.proofs.Numbers.{split}
 use Rattle.model.specs.Positions.{Positions, mem}
 use Rattle.model.specs.RunList.{Canon}
 use Rattle.model.proofs.RunList.{mem-in, mem-before}
-use Rattle.store.specs.Places.{physical_of, logical_of}
-use Rattle.store.specs.Layout.{physical_runs}
-use Rattle.store.proofs.Ends.{empty-mem}
+use Rattle.pool.specs.Places.{physical_of, logical_of}
+use Rattle.pool.specs.Layout.{physical_runs}
+use Rattle.pool.proofs.Ends.{empty-mem}
 use Rattle.streams.specs.declared.source.View.{View}
 use Rattle.streams.specs.declared.source.Path.{Path}
 use Rattle.streams.specs.Reading.{Clear, RunFrom, EndsFrom, OnPath, InLast, InFirst, starts_at_zero, Pops}

@@ -8,7 +8,7 @@ use native.Mathlib.Omega.{arith}
 use Rattle.model.specs.declared.Run.{Run}
 use Rattle.model.specs.Numbers.{size}
 use Rattle.model.specs.Positions.{Positions}
-use Rattle.store.specs.Places.{physical_of, logical_of}
+use Rattle.pool.specs.Places.{physical_of, logical_of}
 use Rattle.streams.specs.declared.source.Path.{Path}
 use Rattle.streams.specs.Reading.{Clear, RunFrom, InPart, Pops}
 use Rattle.streams.proofs.Parts.{found-run, part_none, pop-clear, pop-found, pop-then}

@@ -13,7 +13,7 @@ use Rattle.model.proofs.Numbers.{split}
 use Rattle.model.specs.Positions.{Positions, mem}
 use Rattle.model.specs.RunList.{Canon}
 use Rattle.model.proofs.RunList.{mem-in, mem-above, mem_below, mem-before}
-use Rattle.store.proofs.Ends.{empty-mem}
+use Rattle.pool.proofs.Ends.{empty-mem}
 use Rattle.streams.specs.declared.source.Path.{Path}
 use Rattle.streams.specs.Reading.{RunFrom, EndsFrom, InPart, OnPath, Taken, Pops}
 

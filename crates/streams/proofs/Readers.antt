@@ -8,7 +8,7 @@ use Rattle.model.specs.declared.Run.{Run}
 use Rattle.model.specs.declared.Logical.{Logical}
 use Rattle.model.specs.Positions.{Positions}
 use Rattle.streams.specs.declared.source.Reader.{Reader}
-use Rattle.store.specs.Layout.{physical_runs}
+use Rattle.pool.specs.Layout.{physical_runs}
 use Rattle.streams.specs.declared.source.Path.{Path}
 use Rattle.streams.specs.Reading.{Clear, RunFrom, After, OnPath, Pops, InLast, InFirst, Ahead, lastly, firstly, Left, Draws, positions_from, LastAt, FirstAt, Stands, Finds, Reads}
 use Rattle.streams.proofs.Iterated.{StandsAt, draw-goes}

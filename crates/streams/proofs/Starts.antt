@@ -12,19 +12,19 @@ use Rattle.model.specs.Positions.{mem}
 use Rattle.model.specs.RunList.{Canon}
 use Rattle.run_index.specs.Tree.{leaf, inorder}
 use Rattle.run_index.proofs.Trees.{leaf-at}
-use Rattle.store.specs.declared.World.{World}
-use Rattle.store.specs.Places.{physical_of}
-use Rattle.store.specs.Layout.{physical_runs, held_from}
-use Rattle.store.specs.Soundness.{Share, Standing}
-use Rattle.store.proofs.Reached.{tree-physical, kept_low}
-use Rattle.store.proofs.Turn.{turned-at}
+use Rattle.pool.specs.declared.World.{World}
+use Rattle.pool.specs.Places.{physical_of}
+use Rattle.pool.specs.Layout.{physical_runs, held_from}
+use Rattle.pool.specs.Soundness.{Footprint, Standing}
+use Rattle.pool.proofs.Reached.{tree-physical, kept_low}
+use Rattle.pool.proofs.Turn.{turned-at}
 use Rattle.streams.specs.declared.source.View.{View}
 use Rattle.streams.specs.declared.source.Path.{Path}
 use Rattle.streams.specs.Reading.{Rooted, Rest, none, OnPath, InLast, InFirst, Ahead, lastly, firstly, from, Below, Descendable, Descends}
 use Rattle.streams.proofs.Dropping.{from_zero, from-ends, from-canon, mem-from}
 
 -- what stands in the words can be read
-pub standing-rooted : {w : List ℕ} {s : Share} {h : World} → Standing w s h → Rooted w h.root
+pub standing-rooted : {w : List ℕ} {s : Footprint} {h : World} → Standing w s h → Rooted w h.root
 standing-rooted {s = s} t = record { tag = s.tag; tree = t.tree; at = t.kept.linked; ordered = t.kept.ordered; low = kept_low t.kept }
 
 -- at 0 there is nothing to read

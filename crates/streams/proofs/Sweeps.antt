@@ -17,7 +17,7 @@ use Rattle.model.specs.Numbers.{size}
 use Rattle.model.proofs.Numbers.{split}
 use Rattle.model.specs.Positions.{Positions, run, apply, combined}
 use Rattle.model.proofs.RunList.{mem-in, mem-under, mem-above}
-use Rattle.store.proofs.Ends.{empty-mem}
+use Rattle.pool.proofs.Ends.{empty-mem}
 use Rattle.streams.specs.declared.source.Reader.{Reader}
 use Rattle.streams.specs.declared.sweep.Cursor.{Cursor}
 use Rattle.streams.specs.declared.sweep.Joint.{Joint}

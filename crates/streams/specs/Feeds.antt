@@ -2,7 +2,7 @@
 use Rattle.std.specs.Prelude.{⊤, [], ◌∷◌}
 use Rattle.model.specs.declared.Operation.{Operation}
 use Rattle.model.specs.Positions.{Positions, run, mem, combined}
-use Rattle.store.specs.Layout.{held_from}
+use Rattle.pool.specs.Layout.{held_from}
 use Rattle.streams.specs.declared.feed.Feed.{Feed}
 use Rattle.streams.specs.Reading.{Rooted}
 

@@ -7,7 +7,7 @@ use Rattle.model.specs.Numbers.{size}
 use Rattle.model.specs.Positions.{Positions, run, mem}
 use Rattle.model.specs.RunList.{Canon}
 use Rattle.run_index.specs.Tree.{Tree, node, inorder, height, Rep, At}
-use Rattle.store.specs.Layout.{physical_runs, highest}
+use Rattle.pool.specs.Layout.{physical_runs, highest}
 use Rattle.streams.specs.declared.source.View.{View}
 use Rattle.streams.specs.declared.source.Path.{Path}
 use Rattle.streams.specs.declared.source.Reader.{Reader}

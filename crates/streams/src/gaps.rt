@@ -5,13 +5,13 @@
 ghost use Rattle.std.specs.Prelude.{◌≡◌, ◌≤◌};
 ghost use Rattle.model.specs.Positions.{gap};
 ghost use Rattle.model.specs.Range.{many};
-ghost use Rattle.store.specs.Layout.{held_in};
-ghost use Rattle.store.specs.Soundness.{Stands};
+ghost use Rattle.pool.specs.Layout.{held_in};
+ghost use Rattle.pool.specs.Soundness.{Stands};
 
 use crate::source::{Reader, View};
 use model::Logical;
 use model::between::Interval;
-use store::World;
+use pool::World;
 
 // The start of the lowest gap of n in a range. Wherever the loop stands, at least n positions are left from x to the last one: so what it
 // finds to be free before the next run is also within the range, and with no run left a gap starts at x.

@@ -6,14 +6,14 @@ ghost use Rattle.std.specs.Prelude.{◌≡◌, ℕ, List};
 ghost use Rattle.std.specs.Iterator.{at_most};
 ghost use Rattle.model.specs.declared.Run.{Run};
 ghost use Rattle.model.specs.Positions.{Positions};
-ghost use Rattle.store.specs.Layout.{held_from};
+ghost use Rattle.pool.specs.Layout.{held_from};
 ghost use Rattle.streams.specs.Reading.{Rooted, After, Reads, Draws, positions_from};
 ghost use Rattle.streams.specs.Reading.{Descendable, Descends, OnPath, Pops, TellsZero, Stands, LastAt, FirstAt, Finds};
 
 use arrayvec::ArrayVec;
 use model::{Logical, Run};
-use store::Store;
-use store::places::{Physical, to_logical, to_physical};
+use pool::Store;
+use pool::places::{Physical, to_logical, to_physical};
 
 // The greatest height of a tree, and so the most nodes of a path.
 pub const HIGHEST: usize = Store::MAX_HEIGHT as usize;

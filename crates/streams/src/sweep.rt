@@ -2,7 +2,7 @@
 ghost use Rattle.std.specs.Prelude.{◌≡◌, ◌≤◌, ℕ};
 ghost use Rattle.std.specs.Iterator.{at_most};
 ghost use Rattle.model.specs.Positions.{apply, Positions};
-ghost use Rattle.store.specs.Layout.{held_from};
+ghost use Rattle.pool.specs.Layout.{held_from};
 ghost use Rattle.streams.specs.Reading.{Rooted, Draws, positions_from};
 ghost use Rattle.streams.specs.Sweeping.{Points, Covers, held_at, same_until, Movable, Moves, Both, Reaches, Joins};
 

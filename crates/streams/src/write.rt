@@ -3,19 +3,19 @@
 ghost use Rattle.std.specs.Prelude.{◌≡◌, ◌+◌, ◌*◌, ◌≤◌, length};
 ghost use Rattle.model.specs.Positions.{stretches, held_runs};
 ghost use Rattle.model.specs.Bytes.{encode, into_front};
-ghost use Rattle.store.specs.Layout.{held_in};
-ghost use Rattle.store.specs.Soundness.{Stands};
+ghost use Rattle.pool.specs.Layout.{held_in};
+ghost use Rattle.pool.specs.Soundness.{Stands};
 
 use crate::source::{Reader, View};
 use model::{Edition, Logical};
-use store::World;
+use pool::World;
 
 // How many runs a world has. The record counts the physical ones, so no `Set`, which would have to look at the root again.
 pub fn run_count(words: &[u64], h: World) -> u64
     requires { Stands words.now h }
     ensures { result ≡ stretches (held_in words.now h) }
 {
-    store::bounds::logical_runs(&store::set_of(words, h), h.runs)
+    pool::bounds::logical_runs(&pool::set_of(words, h), h.runs)
 }
 
 // Writes a world's set into the front of a slice that has room for it.

@@ -1,7 +1,7 @@
 -- The loop's invariant: the pool is sound, a gap has a position, and so far all searches found one, or none did; no more found one than were
 -- made. Assumes nothing.
 use Rattle.std.proofs.Common.{◌≡◌, ◌≤◌, ◌-◌, suc, cond}
-use Rattle.store.specs.Soundness.{Sound}
+use Rattle.pool.specs.Soundness.{Sound}
 use Rattle.bench_store.specs.Growing.{has_gap}
 use Rattle.bench_store.proofs.vizturel_bench_gaps.Given as goal
 

@@ -1,7 +1,7 @@
 -- The first runs are put, and the others are left.
 use Rattle.std.proofs.Common.{length}
 use Rattle.model.specs.Positions.{remaining}
-use Rattle.store.specs.Layout.{held_by}
+use Rattle.pool.specs.Layout.{held_by}
 use Rattle.listset.proofs.Lines.{Progress}
 use Rattle.listset.proofs.put_runs.Given as goal
 

@@ -4,7 +4,7 @@ use mathlib.Core.Path.{sym, subst, ap}
 use Rattle.model.specs.Numbers.{size}
 use Rattle.model.specs.Positions.{held_runs}
 use Rattle.model.proofs.Counting.{count_most}
-use Rattle.store.specs.Layout.{held_by}
+use Rattle.pool.specs.Layout.{held_by}
 use Rattle.listset.specs.Text.{run_lines}
 use Rattle.listset.proofs.Putting.{and_then, cut_short, same_text}
 use Rattle.listset.proofs.Drawing.{set-told}

@@ -3,8 +3,8 @@
 use Rattle.std.proofs.Common.{◌≡◌, suc, ◌+◌, sym, ap, ◌∙◌, ap₂, arith}
 use Rattle.model.specs.Positions.{one_if}
 use Rattle.model.specs.Neighbours.{goes_on}
-use Rattle.store.specs.Layout.{held}
-use Rattle.store.proofs.Truths.{byte-one, byte-small}
+use Rattle.pool.specs.Layout.{held}
+use Rattle.pool.proofs.Truths.{byte-one, byte-small}
 use Rattle.changes.proofs.Neighbours.{both-yes, both-no, goes_on-below, goes_on-above}
 use Rattle.changes.proofs.Fitting.{stretches-most, outside-is, inside-most}
 use Rattle.changes.proofs.edit.around.Goals as goal

@@ -3,7 +3,7 @@
 use Rattle.std.proofs.Common.{◌≤◌, sym, ◌∙◌, subst, arith, leb-true}
 use Rattle.model.specs.Positions.{flip_range, stretches}
 use Rattle.model.specs.Range.{many}
-use Rattle.store.specs.Layout.{held_in}
+use Rattle.pool.specs.Layout.{held_in}
 use Rattle.reports.specs.Reports.{StretchEnd}
 use Rattle.changes.proofs.Flipping.{Flipping, flips-none, stretch-applies, flipping-more, flips-done}
 use Rattle.changes.proofs.edit.flip.Goals as goal

@@ -1,7 +1,7 @@
 -- `place` meets its contract: the range lies at one physical range, or at two; what is written there is the set asked for, turned.
 -- Assumes nothing.
 use Rattle.std.proofs.Common.{suc, ◌-◌, arith}
-use Rattle.store.proofs.Turn.{Lies, lies-from-to}
+use Rattle.pool.proofs.Turn.{Lies, lies-from-to}
 use Rattle.changes.proofs.Setting.{never-parted, whole-puts, whole-settable, whole-reached, first-settable, second-settable, parted-reached}
 use Rattle.changes.proofs.edit.place.Goals as goal
 use Rattle.changes.proofs.edit.place.Goals.{After-links_of-x}

@@ -2,9 +2,9 @@
 -- Assumes nothing.
 use Rattle.std.proofs.Common.{◌<◌, sym, subst, ⊎_elim, inl, inr, arith}
 use Rattle.model.specs.Numbers.{size}
-use Rattle.store.specs.declared.World.{World}
+use Rattle.pool.specs.declared.World.{World}
 use Rattle.model.specs.Positions.{shift_by}
-use Rattle.store.specs.Soundness.{Share, Limited}
+use Rattle.pool.specs.Soundness.{Footprint, Limited}
 use Rattle.changes.proofs.Shifting.{Cleared, cleared-same, none_stays, all_stay, leaving-applies, all-leave, none-leaves, some-leave, rest-moves}
 use Rattle.changes.proofs.edit.shift.Goals as goal
 use Rattle.changes.proofs.edit.shift.Goals.{
@@ -16,7 +16,7 @@ use Rattle.changes.proofs.edit.shift.Goals.{
 }
 
 -- what would leave is cleared
-cleared : (j : Joined-gone-h-2) {s : Share} {limit : _} → Limited j.args.words.now s j.args.h limit
+cleared : (j : Joined-gone-h-2) {s : Footprint} {limit : _} → Limited j.args.words.now s j.args.h limit
     → Cleared j.args.words.now j.if-gone-h-2.words s j.args.h j.if-gone-h-2.k j.leaving-up.result.0.first.0 j.args.d (shift_by j.args.d j.args.left)
 cleared j lim =
     elim j.if-gone-h-2.branch [

@@ -4,7 +4,7 @@ use mathlib.Core.Path.{◌≡◌, sym, ap, ap₂, ◌∙◌}
 use mathlib.Core.Bool.{true}
 use native.Mathlib.Omega.{arith}
 use Rattle.model.specs.Positions.{count}
-use Rattle.store.specs.Layout.{held}
+use Rattle.pool.specs.Layout.{held}
 use Rattle.grid.specs.Rows.{row_sum, row_count}
 use Rattle.grid.proofs.Cells.{sum-next, sum-none, rect-rows, wide-count}
 use Rattle.grid.proofs.Small.{count-few, sum-few}

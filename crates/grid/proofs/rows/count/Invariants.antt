@@ -1,7 +1,7 @@
 -- `count` meets its contract. The loop's invariant: the sum is that of the rows before row r. Assumes nothing.
 use Prim.Native.Nat.{◌-◌}
 use mathlib.Core.Path.{◌≡◌}
-use Rattle.store.specs.Layout.{held}
+use Rattle.pool.specs.Layout.{held}
 use Rattle.grid.specs.Rows.{row_sum, row_count}
 use Rattle.grid.proofs.rows.count.Given as goal
 

@@ -2,7 +2,7 @@
 use Rattle.std.proofs.Common.{true, arith}
 use Rattle.model.proofs.Counting.{count_most}
 use Rattle.model.specs.Range.{many}
-use Rattle.store.specs.Layout.{held}
+use Rattle.pool.specs.Layout.{held}
 use Rattle.grid.proofs.rows.held_cells.Goals as goal
 
 pub returns : goal.returns

@@ -5,8 +5,8 @@ use mathlib.Core.Path.{sym, ◌∙◌, subst, ap₂}
 use borrow.Author.Tests.{leb-true}
 use native.Mathlib.Omega.{arith}
 use Rattle.model.specs.Positions.{Positions, set_range}
-use Rattle.store.specs.declared.World.{World}
-use Rattle.store.specs.Layout.{held_in}
+use Rattle.pool.specs.declared.World.{World}
+use Rattle.pool.specs.Layout.{held_in}
 use Rattle.changes.specs.Edits.{Edited, Makes}
 use Rattle.changes.proofs.Gaining.{set-changes}
 use Rattle.model.specs.Grid.{set_rect}

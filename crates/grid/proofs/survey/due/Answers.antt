@@ -1,6 +1,6 @@
 -- `due` meets its contract: a survey has few words, so they can be counted. Assumes nothing.
 use Rattle.std.proofs.Common.{arith, ap, length}
-use Rattle.store.specs.Layout.{held}
+use Rattle.pool.specs.Layout.{held}
 use Rattle.grid.proofs.Halving.{survey-few, tile_pieces}
 use Rattle.grid.proofs.survey.due.Goals as goal
 

@@ -5,7 +5,7 @@ use mathlib.Core.Bool.{Bool}
 use Prim.Native.Nat.{◌+◌, ◌/◌, ◌^◌}
 use native.Mathlib.Omega.{arith}
 use Rattle.std.proofs.Math.Nat.{le-max_right}
-use Rattle.store.specs.Layout.{held}
+use Rattle.pool.specs.Layout.{held}
 use Rattle.model.specs.Grid.{one_valued}
 use Rattle.reports.specs.Reports.{logical_number}
 use Rattle.grid.specs.Surveys.{OnGrid}

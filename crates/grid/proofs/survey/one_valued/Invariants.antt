@@ -2,7 +2,7 @@
 -- that are left. Assumes nothing.
 use Prim.Native.Nat.{◌-◌, ◌≤◌}
 use mathlib.Core.Path.{◌≡◌}
-use Rattle.store.specs.Layout.{held}
+use Rattle.pool.specs.Layout.{held}
 use Rattle.model.specs.Grid.{cell}
 use Rattle.grid.proofs.Alike.{Alike}
 use Rattle.grid.proofs.survey.one_valued.Given as goal

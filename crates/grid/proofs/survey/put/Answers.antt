@@ -1,7 +1,7 @@
 -- `put` meets its contract: a survey has few words, and what is put from the start on is the front. Assumes nothing.
 use Rattle.std.proofs.Common.{◌∙◌, subst, arith}
 use Rattle.codec.proofs.Placing.{placed-front}
-use Rattle.store.specs.Layout.{held}
+use Rattle.pool.specs.Layout.{held}
 use Rattle.grid.specs.Surveys.{Listed}
 use Rattle.grid.proofs.Halving.{tile_pieces}
 use Rattle.grid.proofs.survey.put.Goals as goal

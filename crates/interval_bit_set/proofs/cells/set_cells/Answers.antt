@@ -1,8 +1,8 @@
 -- `set_rect` meets its contract: a rectangle that is none of the plane is refused, and the cells of another get the value. Assumes nothing.
 use Rattle.std.proofs.Common.{◌≡◌, refl, subst, ap₂}
 use Rattle.model.specs.Grid
-use Rattle.store.specs.Layout.{held_in, held_by}
-use Rattle.store.proofs.Parts.{lent}
+use Rattle.pool.specs.Layout.{held_in, held_by}
+use Rattle.pool.proofs.Parts.{lent}
 use Rattle.grid.specs.Areas.{AreaOf}
 use Rattle.interval_bit_set.proofs.Planes.{plane-first, plane-passes}
 use Rattle.interval_bit_set.proofs.Doors.{lent-editable, lent-held}

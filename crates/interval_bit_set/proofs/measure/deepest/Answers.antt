@@ -2,7 +2,7 @@
 use Rattle.std.proofs.Common.{◌≡◌, ◌≤◌, false, sym, ◌∙◌, arith}
 use Rattle.model.specs.Deepest.{least}
 use Rattle.model.specs.Refusals.{bad_height}
-use Rattle.store.specs.Layout.{capacity}
+use Rattle.pool.specs.Layout.{capacity}
 use Rattle.interval_bit_set.proofs.Measuring.{good-height, no-height, over-height, list-fits, deepest-no-pool, deepest-no-height, deepest-over, deepest-short, deepest-done}
 use Rattle.interval_bit_set.proofs.measure.deepest.Goals as goal
 use Rattle.interval_bit_set.proofs.measure.deepest.Goals.{Else-h-gt-MAX_HEIGHT, Else-n-s, Else-s-eq0}

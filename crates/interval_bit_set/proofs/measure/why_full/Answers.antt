@@ -1,7 +1,7 @@
 -- `why_full` meets its contract: each of its tests in turn, and then the places are put in front. Assumes nothing.
 use Rattle.std.proofs.Common.{◌≡◌, ◌≤◌, sym, ap, ◌∙◌, arith}
 use Rattle.model.specs.Spawning.{ranges_of, entries_of, up_to_refused}
-use Rattle.store.specs.Layout.{capacity}
+use Rattle.pool.specs.Layout.{capacity}
 use Rattle.why_full.proofs.Answering.{Answered, why-none, why-some}
 use Rattle.interval_bit_set.proofs.Stopping.{why-no-pool, why-unrefused, why-short, why-done}
 use Rattle.interval_bit_set.proofs.measure.why_full.Goals as goal

@@ -5,7 +5,7 @@ use Rattle.model.specs.Positions.{held_runs, stretches}
 use Rattle.model.specs.Bytes.{runs_told, into_front}
 use Rattle.model.specs.Mending.{mended_positions, mended_set, mend_report}
 use Rattle.model.proofs.Slices.{all-bytes}
-use Rattle.store.specs.Layout.{allowance}
+use Rattle.pool.specs.Layout.{allowance}
 use Rattle.codec.proofs.Telling.{shaped-tested}
 use Rattle.interval_bit_set.specs.Out.{Mendable, Mends}
 use Rattle.interval_bit_set.proofs.Passing.{handed-on}

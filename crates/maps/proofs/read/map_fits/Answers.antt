@@ -5,8 +5,8 @@ use Rattle.model.specs.declared.between.Interval.{Interval}
 use Rattle.model.specs.Positions.{one_if}
 use Rattle.model.specs.Bytes.{map_bit, mapped}
 use Rattle.model.specs.Neighbours.{held_below, held_above}
-use Rattle.store.specs.Layout.{held_in}
-use Rattle.store.proofs.Truths.{byte-one}
+use Rattle.pool.specs.Layout.{held_in}
+use Rattle.pool.proofs.Truths.{byte-one}
 use Rattle.reports.proofs.Reading.{ranges-most}
 use Rattle.changes.specs.Edits.{Surrounds}
 use Rattle.changes.proofs.Neighbours.{both-yes, both-no}

@@ -1,7 +1,7 @@
 -- `read_map` meets its contract: where the survey finds no change the world holds the map already; else it is refused, or `apply_map` reads
 -- it. Assumes nothing.
 use Rattle.std.proofs.Common.{subst}
-use Rattle.store.specs.Layout.{held_in}
+use Rattle.pool.specs.Layout.{held_in}
 use Rattle.maps.specs.Window.{Surveyed}
 use Rattle.maps.proofs.Applying.{nothing-changed}
 use Rattle.maps.proofs.read.read_map.Goals as goal

@@ -1,7 +1,7 @@
 -- `survey_map` meets its contract. The loop's invariant: the runs and the changes of the window are counted up to the bit from which on stretches
 -- are still to come. Assumes nothing.
 use Rattle.std.proofs.Common.{◌≡◌}
-use Rattle.store.specs.Layout.{held}
+use Rattle.pool.specs.Layout.{held}
 use Rattle.maps.proofs.Surveying.{Surveying}
 use Rattle.maps.proofs.read.survey_map.Given as goal
 

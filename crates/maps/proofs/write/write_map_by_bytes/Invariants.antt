@@ -1,7 +1,7 @@
 -- `write_map_by_bytes` meets its contract. The loop's invariant: j bytes of the map are in front of the slice, and the cursor stands at the first
 -- position of the next one. The measure is how many positions are left. Assumes nothing.
 use Rattle.std.proofs.Common.{◌-◌, ◌*◌}
-use Rattle.store.specs.Layout.{held_in}
+use Rattle.pool.specs.Layout.{held_in}
 use Rattle.maps.proofs.Octeting.{Writing}
 use Rattle.maps.proofs.write.write_map_by_bytes.Given as goal
 

@@ -2,7 +2,7 @@
 -- Assumes nothing.
 use Rattle.std.proofs.Common.{◌-◌, inl, inr, ⊎_elim, ap, arith}
 use Rattle.model.specs.Numbers.{size}
-use Rattle.store.proofs.Turn.{Lies}
+use Rattle.pool.proofs.Turn.{Lies}
 use Rattle.model.specs.Positions.{mem}
 use Rattle.reports.specs.Reports.{physical_number}
 use Rattle.reports.proofs.Seeking.{lies-from, next-first, next-second, next-nowhere, next-nowhere-parted}

@@ -1,7 +1,7 @@
 -- `previous` meets its contract: the last position found where the positions up to x lie, else none.
 -- Assumes nothing.
 use Rattle.std.proofs.Common.{suc, inl, inr, ⊎_elim, ap, arith}
-use Rattle.store.proofs.Turn.{Lies}
+use Rattle.pool.proofs.Turn.{Lies}
 use Rattle.model.specs.Positions.{mem}
 use Rattle.reports.specs.Reports.{physical_number}
 use Rattle.reports.proofs.Seeking.{lies-upto, previous-first, previous-second, previous-nowhere, previous-nowhere-parted}

@@ -5,7 +5,7 @@ use Rattle.model.specs.Numbers.{size}
 use Rattle.model.specs.Positions.{mem}
 use Rattle.reports.specs.Reports.{logical_number, Place}
 use Rattle.reports.proofs.Reading.{place-ok, place-none, selected-whole, unselected-whole, selected-first, selected-second, unselected-second}
-use Rattle.store.proofs.Turn.{Lies, lies-from-to}
+use Rattle.pool.proofs.Turn.{Lies, lies-from-to}
 use Rattle.reports.proofs.logical.select.Goals as goal
 use Rattle.reports.proofs.logical.select.Goals.{then-first-last, else-first-last+in-Ok, else-first-last+in-Err, After-to_physical-last}
 

@@ -4,7 +4,7 @@ use Rattle.std.proofs.Common.{◌≡◌, ◌&&◌, suc, ◌-◌, sym, ap, ◌∙
 use mathlib.Core.Bool.{beq}
 use Rattle.model.specs.Positions.{mem}
 use Rattle.reports.proofs.Reading.{tally-whole, count_fits, runs_fit, joined-some, tally-parted}
-use Rattle.store.proofs.Turn.{Lies, lies-from-to}
+use Rattle.pool.proofs.Turn.{Lies, lies-from-to}
 use Rattle.reports.proofs.logical.tally.Goals as goal
 use Rattle.reports.proofs.logical.tally.Goals.{then-high-value, else-high-value, After-to_physical-last, After-from}
 

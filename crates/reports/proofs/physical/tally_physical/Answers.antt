@@ -2,7 +2,7 @@
 -- Assumes nothing.
 use Rattle.std.proofs.Common.{◌+◌, not, inl, inr, ap, ◌∙◌, arith}
 use Rattle.model.specs.Numbers.{worth}
-use Rattle.store.proofs.Truths.{byte-small}
+use Rattle.pool.proofs.Truths.{byte-small}
 use Rattle.reports.proofs.Ranks.{starts-small, starts-ordered, more-fits, tally-more, tally-same}
 use Rattle.reports.proofs.physical.tally_physical.Goals as goal
 use Rattle.reports.proofs.physical.tally_physical.Goals.{then-value, else-value}

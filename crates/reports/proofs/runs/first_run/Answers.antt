@@ -2,7 +2,7 @@
 -- Assumes nothing.
 use Rattle.std.proofs.Common.{sym, ap, ◌∙◌, arith}
 use Rattle.model.specs.Range.{many}
-use Rattle.store.specs.Layout.{held}
+use Rattle.pool.specs.Layout.{held}
 use Rattle.reports.specs.Reports.{logical_number}
 use Rattle.reports.proofs.Joins.{FoundIn, find-only}
 use Rattle.reports.proofs.Bounding.{no-first-run, first-run-found}

@@ -1,6 +1,6 @@
 -- `lowest_gap` meets its contract. The loop's invariant: the reader stands at x, at least n positions of the range are left, and the lowest gap
 -- of what is left is the range's. Assumes nothing.
-use Rattle.store.specs.Layout.{held_in}
+use Rattle.pool.specs.Layout.{held_in}
 use Rattle.streams.proofs.Gapped.{Sought}
 use Rattle.streams.proofs.gaps.lowest_gap.Given as goal
 

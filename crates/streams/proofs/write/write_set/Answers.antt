@@ -2,7 +2,7 @@
 use Rattle.std.proofs.Common.{◌≡◌, ◌+◌, ◌*◌, ◌≤◌, length, sym, ap, ◌∙◌, arith}
 use Rattle.std.specs.Iterator.Adapters.{enumerate_source, enumerate_count}
 use Rattle.model.specs.Positions.{run, held_runs, stretches}
-use Rattle.store.specs.Layout.{held_in}
+use Rattle.pool.specs.Layout.{held_in}
 use Rattle.streams.specs.declared.source.Reader.{Reader}
 use Rattle.streams.specs.Reading.{Draws, Reads}
 use Rattle.codec.proofs.Strewing.{head-length, put-none, put-long, put_step, put-set}

@@ -3,7 +3,7 @@ use Rattle.std.specs.Prelude.{drop}
 use Rattle.std.specs.Iterator.{AlwaysYields}
 use Rattle.std.specs.Iterator.Adapters.{enumerate_source, enumerate_count}
 use Rattle.model.specs.Positions.{held_runs}
-use Rattle.store.specs.Layout.{held_in}
+use Rattle.pool.specs.Layout.{held_in}
 use Rattle.streams.specs.Reading.{Draws, Reads}
 use Rattle.codec.proofs.Strewing.{Put}
 use Rattle.streams.proofs.write.write_set.Given as goal

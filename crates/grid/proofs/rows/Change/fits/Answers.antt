@@ -5,7 +5,7 @@ use mathlib.Core.Path.{◌≡◌, sym, ap, ◌∙◌}
 use borrow.Author.Tests.{leb-true}
 use native.Mathlib.Omega.{arith}
 use Rattle.model.specs.Positions.{stretches}
-use Rattle.store.specs.Layout.{held_in}
+use Rattle.pool.specs.Layout.{held_in}
 use Rattle.changes.proofs.Fitting.{limit-few, logical-few}
 use Rattle.grid.specs.Rows.{row_sum, row_gain, row_loss}
 use Rattle.grid.proofs.Cells.{sum-next, sum-none}

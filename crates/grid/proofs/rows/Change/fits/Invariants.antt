@@ -3,7 +3,7 @@
 use Prim.Native.Nat.{◌+◌, ◌-◌}
 use mathlib.Core.Path.{◌≡◌}
 use Rattle.model.specs.Positions.{stretches}
-use Rattle.store.specs.Layout.{held_in}
+use Rattle.pool.specs.Layout.{held_in}
 use Rattle.grid.specs.Rows.{row_sum, row_gain, row_loss}
 use Rattle.grid.proofs.rows.Change.fits.Given as goal
 

@@ -1,7 +1,7 @@
 -- `loss` meets its contract: a tally tells the runs of a stretch, which are few, and each neighbour is one more. Assumes nothing.
 use Rattle.std.proofs.Common.{arith}
-use Rattle.store.specs.Layout.{held}
-use Rattle.store.proofs.Truths.{byte-small}
+use Rattle.pool.specs.Layout.{held}
+use Rattle.pool.proofs.Truths.{byte-small}
 use Rattle.grid.proofs.Small.{runs-few}
 use Rattle.grid.proofs.rows.Change.loss.Goals as goal
 

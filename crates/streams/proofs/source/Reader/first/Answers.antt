@@ -1,6 +1,6 @@
 -- `first` meets its contract: the first part goes on, or over the seam at physical M into the last part. Assumes nothing.
 use mathlib.Core.Path.{sym, ◌∙◌}
-use Rattle.store.specs.Layout.{physical_runs}
+use Rattle.pool.specs.Layout.{physical_runs}
 use Rattle.model.specs.Positions.{Positions}
 use Rattle.streams.specs.Reading.{OnPath, FirstAt, lastly, firstly}
 use Rattle.streams.proofs.Parts.{pop-all}

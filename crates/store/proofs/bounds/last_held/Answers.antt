@@ -1,9 +1,0 @@
--- `last_held` meets its contract: the last run of all tells it where nothing is turned. Assumes nothing.
-use Rattle.std.proofs.Common.{arith, rules}
-use Rattle.store.proofs.Nearby.{told-last}
-use Rattle.store.proofs.bounds.last_held.Goals as goal
-
-pub returns : goal.returns
-returns c =
-    told-last c.args.set.now.runs c.at_or_before.ensures.in_order c.args.set.now.offset (omega arith) (omega (arith, c.if-set-ne0.false))
-    c.at_or_before.ensures.found c.map_or.ensures (λ r h. search rules)

@@ -1,6 +1,0 @@
--- `close` meets its contract: the header and the record are written last. Assumes nothing.
-use Rattle.store.proofs.Closing.{closes}
-use Rattle.store.proofs.close.Goals as goal
-
-pub returns-clause-closes : goal.returns-clause-closes
-returns-clause-closes c = closes c.write_world.ensures
