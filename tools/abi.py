@@ -143,7 +143,7 @@ LIBRARY = """// The library as C sees it: every public call, on numbers and lent
 #![tactic(auto)]
 
 ghost use Rattle.std.specs.Prelude.{◌/◌, length};
-ghost use Rattle.written.specs.Listed.{pairs};
+ghost use Rattle.run_lists.specs.Listed.{pairs};
 ghost use Rattle.model.specs.Call.{Call, Measure};
 ghost use Rattle.model.specs.Pools.{limits_of};
 ghost use Rattle.model.specs.Range.{range_by};
