@@ -15,7 +15,7 @@ PART = re.compile(r"[a-z][a-z0-9]*[A-Z][A-Za-z0-9']*")
 TOKEN = re.compile(r"(?<![\w'])[A-Za-z_\u0370-\u03ff\u25cc\u2080-\u2089][\w'\u2080-\u2089-]*")
 
 
-# lemmas that would fall together with a definition of the same file
+# lemmas that would fall together with a definition of the same file, by the places where they stood when the names were respelled
 CLASHES = [
     ("crates/promises/proofs/Meeting.antt", "fed_by"),
     ("crates/frame/proofs/", "no_room"),
