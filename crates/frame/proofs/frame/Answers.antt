@@ -22,4 +22,11 @@ pub play-requires : goal.play-requires
 play-requires c = playable c.args.words.now c.args.calls.now c.args.answers.now c.if-answers-calls.false
 
 pub returns : goal.returns
-returns c = ?
+returns c =
+    let w = c.args.words.now in
+    let cs = c.args.calls.now in
+    let out = c.args.answers.now in
+    let m : Framed w cs out (completed_answer c.end.result) c.end.new.self.words.now c.play.new.answers =
+    subst (λ r. Framed w cs out (completed_answer r) c.end.new.self.words.now c.play.new.answers) (sym c.end.ensures.ended.answered)
+    (framed w cs out c.in_ok-worn.ensures.0.0 c.if-answers-calls.false c.play.ensures.plays c.end.ensures.ended.tidies.tidied) in
+    search (rules, m)

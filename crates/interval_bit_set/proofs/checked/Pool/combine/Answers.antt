@@ -8,7 +8,9 @@ use Rattle.interval_bit_set.proofs.Looking.{found, shut-one, shut-first, shut-se
 use Rattle.interval_bit_set.proofs.checked.Pool.combine.Goals as goal
 
 pub returns-in_err-opened-clause-met : goal.returns-in_err-opened-clause-met
-returns-in_err-opened-clause-met c = shut-one _ (site c.args.a.words.now c.args.i ∷ site c.args.b.words.now c.args.j ∷ []) _ c.from_residual.ensures.1 (λ e p. p) refl (c.args.self.now.checked, (c.args.a.checked, (c.args.b.checked, tt))) c.in_err-opened.ensures
+returns-in_err-opened-clause-met c =
+    shut-one _ (site c.args.a.words.now c.args.i ∷ site c.args.b.words.now c.args.j ∷ []) _ c.from_residual.ensures.1 (λ e p. p) refl
+    (c.args.self.now.checked, (c.args.a.checked, (c.args.b.checked, tt))) c.in_err-opened.ensures
 
 pub returns-in_err-x-clause-met : goal.returns-in_err-x-clause-met
 returns-in_err-x-clause-met c =

@@ -30,11 +30,13 @@ many d = d.due.ensures ∙ ap length (pieces d (held d.in_ok-set.set) ∙ ap (λ
 
 pub returns-in_default : goal.returns-in_default
 returns-in_default c =
-    put-refused c.args.out.now (Call.survey c.args.row c.args.column c.args.k) _ refl (found c.args.self.checked c.in_ok-set.ensures.0) OffPlane (refused-square _ _ _ (subst (SquareOf c.args.row c.args.column c.args.k) c.in_default.is c.square_of.ensures))
+    put-refused c.args.out.now (Call.survey c.args.row c.args.column c.args.k) _ refl
+    (found c.args.self.checked c.in_ok-set.ensures.0) OffPlane (refused-square _ _ _ (subst (SquareOf c.args.row c.args.column c.args.k) c.in_default.is c.square_of.ensures))
 
 pub returns-then-out-due : goal.returns-then-out-due
 returns-then-out-due c =
-    put-short c.args.out.now (Call.survey c.args.row c.args.column c.args.k) (λ P. survey P c.args.k c.args.row c.args.column) refl (found c.args.self.checked c.in_ok-set.ensures.0) (many (goal.at.returns-then-out-due c).After-due) c.if-out-due.true
+    put-short c.args.out.now (Call.survey c.args.row c.args.column c.args.k) (λ P. survey P c.args.k c.args.row c.args.column) refl
+    (found c.args.self.checked c.in_ok-set.ensures.0) (many (goal.at.returns-then-out-due c).After-due) c.if-out-due.true
     (short-after-square _ _ _ (square (goal.at.returns-then-out-due c).After-due).0)
 
 pub returns : goal.returns

@@ -38,15 +38,18 @@ done : {g : _} (o : Else-out-due g) {out : List ℕ}
     out ≡ into_front (map_of (held_in (lent a.self.words.now) o.in_ok-h.h) a.base a.n) a.out.now
     → WritesOut (Call.write_map a.base a.n) a.self.words.now a.world a.out.now (Ok o.div_ceil-due.result) out
 done o =
-    put-done o.args.out.now (Call.write_map o.args.base o.args.n) (λ P. map_of P o.args.base o.args.n) refl (found o.args.self.checked o.in_ok-h.ensures.0) (sym (due o) ∙ sym (map_of-length _ _ _)) o.in_ok-h.ensures.1
+    put-done o.args.out.now (Call.write_map o.args.base o.args.n) (λ P. map_of P o.args.base o.args.n) refl
+    (found o.args.self.checked o.in_ok-h.ensures.0) (sym (due o) ∙ sym (map_of-length _ _ _)) o.in_ok-h.ensures.1
     (window-passes _ _ (bad-by _ _ _ o.window_fits.ensures (ap not o.if-not-window_fits.false))) o.if-out-due.false
 
 pub returns-then-not-window_fits : goal.returns-then-not-window_fits
-returns-then-not-window_fits g c = put-refused c.args.out.now (Call.write_map c.args.base c.args.n) _ refl (found c.args.self.checked c.in_ok-h.ensures.0) Window (refused-window _ _ (bad-by _ _ _ c.window_fits.ensures (ap not c.if-not-window_fits.true)))
+returns-then-not-window_fits g c = put-refused c.args.out.now (Call.write_map c.args.base c.args.n) _ refl
+    (found c.args.self.checked c.in_ok-h.ensures.0) Window (refused-window _ _ (bad-by _ _ _ c.window_fits.ensures (ap not c.if-not-window_fits.true)))
 
 pub returns-then-out-due : goal.returns-then-out-due
 returns-then-out-due g c =
-    put-short c.args.out.now (Call.write_map c.args.base c.args.n) (λ P. map_of P c.args.base c.args.n) refl (found c.args.self.checked c.in_ok-h.ensures.0) (omega (arith, c.div_ceil-due.ensures) ∙ sym (map_of-length _ _ _)) c.if-out-due.true
+    put-short c.args.out.now (Call.write_map c.args.base c.args.n) (λ P. map_of P c.args.base c.args.n) refl
+    (found c.args.self.checked c.in_ok-h.ensures.0) (omega (arith, c.div_ceil-due.ensures) ∙ sym (map_of-length _ _ _)) c.if-out-due.true
     (short-after-window _ _ (good (goal.at.returns-then-out-due g c).Else-not-window_fits))
 
 pub write_map-requires-clause-scannable : goal.write_map-requires-clause-scannable

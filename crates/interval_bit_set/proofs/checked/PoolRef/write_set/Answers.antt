@@ -25,7 +25,8 @@ length_of-due-requires c = omega (arith, few-runs c.in_ok-h.ensures.1)
 
 pub returns-then-out-due : goal.returns-then-out-due
 returns-then-out-due c =
-    put-short c.args.out.now (Call.write_set c.args.edition) (λ P. encode c.args.edition (held_runs P)) refl (found c.args.self.checked c.in_ok-h.ensures.0) (c.length_of-due.ensures ∙ due (goal.at.returns-then-out-due c).After-length_of-due) c.if-out-due.true refl
+    put-short c.args.out.now (Call.write_set c.args.edition) (λ P. encode c.args.edition (held_runs P)) refl
+    (found c.args.self.checked c.in_ok-h.ensures.0) (c.length_of-due.ensures ∙ due (goal.at.returns-then-out-due c).After-length_of-due) c.if-out-due.true refl
 
 pub write_set-requires-clause-stands : goal.write_set-requires-clause-stands
 write_set-requires-clause-stands c =
@@ -33,7 +34,8 @@ write_set-requires-clause-stands c =
 
 pub returns : goal.returns
 returns c =
-    put-done c.args.out.now (Call.write_set c.args.edition) (λ P. encode c.args.edition (held_runs P)) refl (found c.args.self.checked c.in_ok-h.ensures.0) (c.length_of-due.ensures ∙ due (goal.at.returns c).After-length_of-due) c.in_ok-h.ensures.1 refl c.if-out-due.false c.write_set.ensures
+    put-done c.args.out.now (Call.write_set c.args.edition) (λ P. encode c.args.edition (held_runs P)) refl
+    (found c.args.self.checked c.in_ok-h.ensures.0) (c.length_of-due.ensures ∙ due (goal.at.returns c).After-length_of-due) c.in_ok-h.ensures.1 refl c.if-out-due.false c.write_set.ensures
 
 pub returns-in_err-h : goal.returns-in_err-h
 returns-in_err-h c = put-shut _ c.from_residual.ensures.1 (λ e p. p) refl c.args.self.checked c.in_err-h.ensures
