@@ -840,8 +840,8 @@ def cases(model):
             held="after c.capacity (alone c.capacity empty) (map on_first c.calls)", left="alone c.capacity (mem c.runs-are)"
         ),
         "List PoolCase": lambda c: row(
-            "Worked", c, told="answers c.capacity [] (map (feed_pool fed_as) c.calls)", answers="c.answers-are",
-            held="after c.capacity [] (map (feed_pool fed_as) c.calls)", left="map opened_as c.worlds-are"
+            "Worked", c, told="answers c.capacity [] (map (told_as (plan fed_as)) c.calls)", answers="c.answers-are",
+            held="after c.capacity [] (map (told_as (plan fed_as)) c.calls)", left="map opened_as c.worlds-are"
         ),
         "List HandledCase": lambda c: None if same(part(c, "call"), part(c, "is")) else f"{show(part(c, 'call'))}, not {show(part(c, 'is'))}",
     }

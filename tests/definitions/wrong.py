@@ -17,7 +17,7 @@ HERE = os.path.dirname(os.path.abspath(__file__))
 SPECS = os.path.join(HERE, "../../crates/model/specs")
 # what the contracts of the public calls cite of the model. That a number of the code is this enum or that limit (Numbers, Answers, limits_of) no case sees,
 # since the cases are calls of the model: there the contracts are read
-ROOTS = [("Pools", "step"), ("Pools", "answers"), ("Pools", "after"), ("Clearing", "clear_map"), ("Converting", "convert"), ("Call", "feed_pool")]
+ROOTS = [("Pools", "step"), ("Pools", "answers"), ("Pools", "after"), ("Clearing", "clear_map"), ("Converting", "convert"), ("Model", "plan"), ("Call", "told_as")]
 
 
 def cited(model):
