@@ -13,6 +13,7 @@ ghost use Rattle.bench_store.specs.Growing.{is_pool, Renewed, next_number, more_
 use model::Logical;
 use model::between::Interval;
 use pool::Store;
+use pool::layout::NODES;
 
 // Makes the words a pool of one world, which is empty and may have all that the pool has. False where no pool has their length.
 #[unsafe(no_mangle)]
@@ -66,7 +67,7 @@ fn put(words: &mut [u64], range: Interval) -> bool
 {
     let h = pool::open(words, 0);
     let limit = pool::allowance(words, 0);
-    let Some(made) = changes::edit::set(&mut words[128..], h, limit, range, true) else {
+    let Some(made) = changes::edit::set(&mut words[NODES..], h, limit, range, true) else {
         return false;
     };
     pool::close(words, made.world);
@@ -99,7 +100,7 @@ fn look_for(words: &[u64], range: Interval, n: u64) -> bool
     ensures { result ≡ has_gap words.now range.first.0 (many range) n }
 {
     let h = pool::open(words, 0);
-    streams::gaps::lowest_gap(&words[128..], h, range, n).is_some()
+    streams::gaps::lowest_gap(&words[NODES..], h, range, n).is_some()
 }
 
 // Makes one soundness check and then so many searches for a gap, and tells how many found one. 0 where the words are no sound pool, the

@@ -16,6 +16,7 @@ ghost use Rattle.interval_bit_set.specs.Handles.{Handles};
 use crate::checked::Pool;
 use maps::window::{Map, Window};
 use model::{Count, Refusal};
+use pool::layout::NODES;
 use run_lists::{RunList, Words};
 
 // Gives a world the runs of a list, which are in order, whatever it held, if its allowance admits so many.
@@ -28,7 +29,7 @@ fn put<L: RunList + Copy>(words: &mut [u64], world: u64, runs: L) -> Result<(), 
         return Err(Refusal::Capacity);
     }
     let h = pool::open(words, world);
-    let k = changes::overwrite::build(&mut words[128..], h, runs);
+    let k = changes::overwrite::build(&mut words[NODES..], h, runs);
     pool::close(words, k);
     Ok(())
 }
@@ -59,7 +60,7 @@ fn put_map<const WIDE: bool>(
     let limit = pool::allowance(words, world);
     let window = Window { base, n };
     let map = Map { window, bytes };
-    let e = maps::read::read_map::<WIDE>(&mut words[128..], h, limit, &map);
+    let e = maps::read::read_map::<WIDE>(&mut words[NODES..], h, limit, &map);
     match e {
         None => Err(Refusal::Capacity),
         Some(made) => {

@@ -10,6 +10,7 @@ use crate::checked::{Pool, PoolRef};
 use grid::rows::Area;
 use grid::tile::{Corner, Square};
 use model::{Count, Rect, Refusal};
+use pool::layout::NODES;
 
 // A rectangle, if it is one of the plane, its first corner not beyond its second.
 fn area_of(q: Rect) -> Option<Area>
@@ -58,7 +59,7 @@ fn set_cells(words: &mut [u64], world: u64, q: Rect, value: bool) -> Result<Coun
     };
     let limit = pool::allowance(words, world);
     let h = pool::open(words, world);
-    let Some(made) = grid::rows::set(&mut words[128..], h, limit, area, value) else {
+    let Some(made) = grid::rows::set(&mut words[NODES..], h, limit, area, value) else {
         return Err(Refusal::Capacity);
     };
     pool::close(words, made.world);

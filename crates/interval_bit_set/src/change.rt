@@ -8,6 +8,7 @@ ghost use Rattle.interval_bit_set.specs.Met.{Met, Readable};
 
 use crate::checked::Pool;
 use model::{Bound, Count, Refusal};
+use pool::layout::NODES;
 
 // An empty range or a reversed one changes nothing; another is set where it stands, if the runs it would leave fit.
 // Whatever changes a world opens it, changes it and closes it, as this does: one function for that would take the change as a closure, and say in its
@@ -28,7 +29,7 @@ fn set_range(
     };
     let limit = pool::allowance(words, world);
     let h = pool::open(words, world);
-    let Some(made) = changes::edit::set(&mut words[128..], h, limit, r, value) else {
+    let Some(made) = changes::edit::set(&mut words[NODES..], h, limit, r, value) else {
         return Err(Refusal::Capacity);
     };
     pool::close(words, made.world);
@@ -45,7 +46,7 @@ fn flip_range(words: &mut [u64], world: u64, lower: Bound, upper: Bound) -> Resu
     };
     let limit = pool::allowance(words, world);
     let h = pool::open(words, world);
-    let Some(k) = changes::edit::flip(&mut words[128..], h, limit, r) else {
+    let Some(k) = changes::edit::flip(&mut words[NODES..], h, limit, r) else {
         return Err(Refusal::Capacity);
     };
     pool::close(words, k);
@@ -58,7 +59,7 @@ fn shift_by(words: &mut [u64], world: u64, distance: u64, left: bool) -> Result<
     ensures { Met words.old world (Call.shift distance left) (completed_answer result) words.new }
 {
     let h = pool::open(words, world);
-    let k = changes::edit::shift(&mut words[128..], h, distance, left);
+    let k = changes::edit::shift(&mut words[NODES..], h, distance, left);
     pool::close(words, k);
     Ok(())
 }
@@ -69,7 +70,7 @@ fn empty_world(words: &mut [u64], world: u64) -> Result<(), Refusal>
     ensures { Met words.old world (Call.build []) (completed_answer result) words.new }
 {
     let h = pool::open(words, world);
-    let k = changes::edit::emptied(&mut words[128..], h);
+    let k = changes::edit::emptied(&mut words[NODES..], h);
     pool::close(words, k);
     Ok(())
 }

@@ -11,6 +11,7 @@ ghost use Rattle.interval_bit_set.specs.Joined.{Carried};
 use crate::checked::{Pool, PoolRef};
 use model::between::Interval;
 use model::{Logical, Operation, Refusal};
+use pool::layout::NODES;
 use streams::feed::Feed;
 use streams::source::View;
 
@@ -31,7 +32,7 @@ fn gathered<'a>(
         return Err(Refusal::Capacity);
     }
     let h = pool::open(words, world);
-    let k = changes::overwrite::gather(&mut words[128..], h, op, x, y);
+    let k = changes::overwrite::gather(&mut words[NODES..], h, op, x, y);
     pool::close(words, k);
     Ok(())
 }
@@ -56,8 +57,8 @@ impl<'a> PoolRef<'a> {
         let y = b.view(j)?;
         Ok(streams::feed::fits(
             Operation::Xor,
-            Feed::Held(&self.words[128..], x),
-            Feed::Held(&b.words[128..], y),
+            Feed::Held(&self.words[NODES..], x),
+            Feed::Held(&b.words[NODES..], y),
             0,
         ))
     }
@@ -85,8 +86,8 @@ impl<'a> Pool<'a> {
             self.words,
             world,
             op,
-            Feed::Held(&a.words[128..], x),
-            Feed::Held(&b.words[128..], y),
+            Feed::Held(&a.words[NODES..], x),
+            Feed::Held(&b.words[NODES..], y),
         )
     }
 
@@ -105,7 +106,7 @@ impl<'a> Pool<'a> {
             self.words,
             world,
             Operation::Xor,
-            Feed::Held(&a.words[128..], x),
+            Feed::Held(&a.words[NODES..], x),
             Feed::Only(all),
         )
     }
@@ -139,7 +140,7 @@ impl<'a> Pool<'a> {
             self.words,
             world,
             Operation::And,
-            Feed::Held(&a.words[128..], x),
+            Feed::Held(&a.words[NODES..], x),
             Feed::Only(kept),
         )
     }

@@ -12,6 +12,7 @@ ghost use Rattle.interval_bit_set.specs.Out.{Mendable, Mends};
 use crate::checked::Pool;
 use codec::told::Told;
 use model::{Mended, Refusal};
+use pool::layout::NODES;
 
 // How many runs the outcome has: a set that is right has its own.
 fn outcome_runs(told: Told<'_>, right: bool) -> u64
@@ -70,7 +71,7 @@ fn put_mended(
         count: k,
     };
     let h = pool::open(words, world);
-    let w = changes::overwrite::build(&mut words[128..], h, outcome);
+    let w = changes::overwrite::build(&mut words[NODES..], h, outcome);
     pool::close(words, w);
     Ok(Mended {
         bytes: due,

@@ -7,6 +7,7 @@ ghost use Rattle.interval_bit_set.specs.Met.{Met};
 use crate::checked::PoolRef;
 use model::between::Interval;
 use model::{Bound, Count, Drawn, Listing, Logical, Refusal, Run, Tally};
+use pool::layout::NODES;
 
 impl<'a> PoolRef<'a> {
     // The value of position x.
@@ -108,7 +109,7 @@ impl<'a> PoolRef<'a> {
         let Some(r) = model::within(lower, upper) else {
             return Ok(None);
         };
-        Ok(streams::gaps::lowest_gap(&self.words[128..], h, r, n))
+        Ok(streams::gaps::lowest_gap(&self.words[NODES..], h, r, n))
     }
 
     // A listing is the range itself, from its first position to its last.

@@ -12,6 +12,7 @@ ghost use Rattle.interval_bit_set.specs.Parts.{code_of, front_of, count_of, Hand
 use crate::checked::PoolRef;
 use maps::window::Window;
 use model::{Edition, Refusal};
+use pool::layout::NODES;
 
 impl<'a> PoolRef<'a> {
     // Writes a world's set, and returns how many bytes it has.
@@ -19,12 +20,12 @@ impl<'a> PoolRef<'a> {
         ensures { WritesOut (Call.write_set edition) self.entry.words.now world out.old result out.new }
     {
         let h = self.open(world)?;
-        let n = streams::write::run_count(&self.words[128..], h);
+        let n = streams::write::run_count(&self.words[NODES..], h);
         let due = codec::set::length_of(n) as usize;
         if out.len() < due {
             return Err(Refusal::OutputShort);
         }
-        streams::write::write_set(&self.words[128..], h, edition, out);
+        streams::write::write_set(&self.words[NODES..], h, edition, out);
         Ok(due)
     }
 
@@ -49,9 +50,9 @@ impl<'a> PoolRef<'a> {
         }
         let window = Window { base, n };
         if WIDE {
-            maps::write::write_map(&self.words[128..], h, window, out);
+            maps::write::write_map(&self.words[NODES..], h, window, out);
         } else {
-            maps::write::write_map_by_bytes(&self.words[128..], h, window, out);
+            maps::write::write_map_by_bytes(&self.words[NODES..], h, window, out);
         }
         Ok(due)
     }

@@ -68,8 +68,15 @@ returns-in_err-sound-2 c =
 
 pub returns : goal.returns
 returns c = (
-  (record { sized = c.in_ok-sized.ensures.ok; passed = c.in_ok-worn.ensures.0 },
-  (record { sized = c.in_ok-sized-2.ensures.ok; passed = c.in_ok-sound.ensures.0 },
-  (record { sized = c.in_ok-sized-3.ensures.ok; passed = c.in_ok-sound-2.ensures.0 },
-  tt))),
-  c.in_ok-worn.ensures.1)
+  (
+    record { sized = c.in_ok-sized.ensures.ok; passed = c.in_ok-worn.ensures.0 },
+    (
+      record { sized = c.in_ok-sized-2.ensures.ok; passed = c.in_ok-sound.ensures.0 },
+      (
+        record { sized = c.in_ok-sized-3.ensures.ok; passed = c.in_ok-sound-2.ensures.0 },
+        tt,
+      ),
+    ),
+  ),
+  c.in_ok-worn.ensures.1,
+)

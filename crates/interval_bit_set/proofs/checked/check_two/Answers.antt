@@ -43,7 +43,12 @@ returns-in_err-sound c =
 
 pub returns : goal.returns
 returns c = (
-  (record { sized = c.in_ok-sized.ensures.ok; passed = c.in_ok-worn.ensures.0 },
-  (record { sized = c.in_ok-sized-2.ensures.ok; passed = c.in_ok-sound.ensures.0 },
-  tt)),
-  c.in_ok-worn.ensures.1)
+  (
+    record { sized = c.in_ok-sized.ensures.ok; passed = c.in_ok-worn.ensures.0 },
+    (
+      record { sized = c.in_ok-sized-2.ensures.ok; passed = c.in_ok-sound.ensures.0 },
+      tt,
+    ),
+  ),
+  c.in_ok-worn.ensures.1,
+)
