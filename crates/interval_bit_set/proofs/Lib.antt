@@ -9,6 +9,7 @@ pub mod Doors
 pub mod Draws
 pub mod Emptying
 pub mod Gaps
+pub mod Giving
 pub mod Growing
 pub mod HandedOn
 pub mod Handing

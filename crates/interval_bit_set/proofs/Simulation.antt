@@ -47,7 +47,7 @@ unfolding bounded
 bounded-ends Q x h = ap (λ t. t && Q x) (le-ltb x size h)
 
 -- and so does what a call leaves of positions that do
-left-ends : (e : Effect) (P : Positions) → Ends P → Ends (left_by e P)
+pub left-ends : (e : Effect) (P : Positions) → Ends P → Ends (left_by e P)
 left-ends Effect.stays P h = h
 left-ends (Effect.becomes Q) P h = bounded-ends (Q P)
 left-ends (Effect.overwritten Q) P h = bounded-ends Q

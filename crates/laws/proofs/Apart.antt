@@ -3,7 +3,7 @@
 use Prim.Native.Nat.{ℕ, ◌+◌, ◌-◌, ◌≤◌, ◌<◌}
 use mathlib.Core.Path.{◌≡◌, refl, sym, ap, ◌∙◌, fun_ext}
 use mathlib.Core.Bool.{Bool, true, false, cond, not, ◌&&◌, beq, true≢false}
-use mathlib.Core.List.{List, []}
+use mathlib.Core.List.{List}
 use native.Mathlib.Omega.{arith}
 use lib.Dec.{leb, ltb}
 use borrow.Author.Tests.{lt-ltb, leb-true, ltb-true}
@@ -13,19 +13,16 @@ use Rattle.model.specs.Numbers.{size}
 use Rattle.model.specs.Range.{first_allowed, extent}
 use Rattle.model.specs.Positions.{Positions, among, combined, set_range, flip_range, bounded, changes}
 use Rattle.model.specs.Bytes.{map_bit, mapped}
-use Rattle.model.specs.Refusals.{Condition, map_conditions}
-use Rattle.model.specs.Call.{Call, done, number, Result, gave}
-use Rattle.model.specs.Model.{strict}
+use Rattle.model.specs.Call.{Call, number, Result, gave}
+use Rattle.model.specs.Model.{Effect, plan, left_by}
 use Rattle.model.proofs.Counting.{count-cong}
 use Rattle.model.proofs.After.{differ_self}
 use Rattle.model.proofs.Edit.{and-holds}
 use Rattle.pool.specs.Layout.{held_by, worlds_of}
-use Rattle.interval_bit_set.specs.Met.{Site, Met}
-use Rattle.interval_bit_set.proofs.Changing.{Changes, set_says, flip-says, read-map-says, set-strict-says, flip-strict-says}
-use Rattle.interval_bit_set.proofs.Served.{bounded-ends}
+use Rattle.interval_bit_set.specs.Met.{Site, fed_at, Met}
+use Rattle.interval_bit_set.proofs.Giving.{given-is}
 use Rattle.laws.specs.Swaps.{Changes-at, by_set, by_flip, by_map, by_strict_set, by_strict_flip, Disjoint}
-use Rattle.laws.proofs.Doing.{Gets, settled-gets, settled_is, gave-is, gets-again, gets-as, gets-one}
-use Rattle.laws.proofs.Swapping.{call-readable}
+use Rattle.laws.proofs.Doing.{Gets, gets-again, gets-as, gets-one, given-gets}
 
 -- ---- positions
 -- the n positions from a become f of themselves
@@ -73,61 +70,30 @@ within-changes a n f P Q h =
     go x false e = differ_self (P x) ∙ sym (differ_self (Q x))
 
 -- ---- calls
--- the call c changes its world at the n positions from a, by f, and its answer is told by what they were
+-- the call c changes its world at the n positions from a, and what it gives is told by what they were
 record Local (c : Call Site) (a n : ℕ) : Type 0 where
   does : ℕ → Bool → Bool
-  conditions : List Condition
-  said : Positions → Result
-  says : (w : List ℕ) (i : ℕ) → Changes w i c conditions (within a n does) said
-  told : (P Q : Positions) → ((x : ℕ) → x < size → among a n x ≡ true → P x ≡ Q x) → said P ≡ said Q
+  effect : (plan fed_at c).effect ≡ Effect.becomes (within a n does)
+  told : (P Q : Positions) → ((x : ℕ) → x < size → among a n x ≡ true → P x ≡ Q x) → (plan fed_at c).gives P ≡ (plan fed_at c).gives Q
 
 -- which calls do
 local : {c : Call Site} {a n : ℕ} → Changes-at c a n → Local c a n
 unfolding within set_range flip_range mapped
-local (by_set {l = l} {u = u} {v = v}) = record {
-  does = λ x p. v;
-  conditions = [];
-  said = λ P. number (changes P (within (first_allowed l) (extent l u) (λ x p. v) P));
-  says = λ w i. record { said = (set_says w i l u v).said };
-  told = λ P Q h. ap number (within-changes (first_allowed l) (extent l u) (λ x p. v) P Q h);
-}
-local (by_flip {l = l} {u = u}) = record {
-  does = λ x p. not p;
-  conditions = [];
-  said = λ P. done;
-  says = λ w i. record { said = (flip-says w i l u).said };
-  told = λ P Q h. refl;
-}
+local (by_set {l = l} {u = u} {v = v}) =
+    record { does = λ x p. v; effect = refl; told = λ P Q h. ap number (within-changes (first_allowed l) (extent l u) (λ x p. v) P Q h) }
+local by_flip = record { does = λ x p. not p; effect = refl; told = λ P Q h. refl }
 local (by_map {base = base} {n = n} {bs = bs}) = record {
   does = λ x p. map_bit bs (x - base);
-  conditions = map_conditions base n bs;
-  said = λ P. number (changes P (within base n (λ x p. map_bit bs (x - base)) P));
-  says = λ w i. record { said = (read-map-says w i base n bs).said };
+  effect = refl;
   told = λ P Q h. ap number (within-changes base n (λ x p. map_bit bs (x - base)) P Q h);
 }
-local (by_strict_set {l = l} {u = u} {v = v}) = record {
-  does = λ x p. v;
-  conditions = strict l u;
-  said = λ P. number (changes P (within (first_allowed l) (extent l u) (λ x p. v) P));
-  says = λ w i. record { said = (set-strict-says w i l u v).said };
-  told = λ P Q h. ap number (within-changes (first_allowed l) (extent l u) (λ x p. v) P Q h);
-}
-local (by_strict_flip {l = l} {u = u}) = record {
-  does = λ x p. not p;
-  conditions = strict l u;
-  said = λ P. done;
-  says = λ w i. record { said = (flip-strict-says w i l u).said };
-  told = λ P Q h. refl;
-}
+local (by_strict_set {l = l} {u = u} {v = v}) =
+    record { does = λ x p. v; effect = refl; told = λ P Q h. ap number (within-changes (first_allowed l) (extent l u) (λ x p. v) P Q h) }
+local by_strict_flip = record { does = λ x p. not p; effect = refl; told = λ P Q h. refl }
 
-module _ (c : Call Site) {a n : ℕ} (L : Local c a n) {w w' : List ℕ} {i : ℕ} {r : Result} (k : Met w i c (gave r) w') where
-  -- what its world gets
-  local-gets : Gets w i w' (bounded (within a n L.does (held_by w i)))
-  local-gets = let R = call-readable c k in settled-gets R (settled_is (L.says w i) k R) (bounded-ends (within a n L.does (held_by w i)))
-
-  -- and its answer
-  local-said : r ≡ L.said (held_by w i)
-  local-said = gave-is (L.says w i) k (call-readable c k)
+-- what its world gets
+local-gets : (c : Call Site) {a n : ℕ} (L : Local c a n) {w w' : List ℕ} {i : ℕ} {r : Result} → Met w i c (gave r) w' → Gets w i w' (bounded (within a n L.does (held_by w i)))
+local-gets c L {w} {i = i} k = gets-as (given-gets k) (ap (λ e. left_by e (held_by w i)) L.effect)
 
 -- two of them, one after the other
 module _ (c d : Call Site) {a n b m : ℕ} (L : Local c a n) (K : Local d b m) {w w₁ w₂ : List ℕ} {i : ℕ} {r q : Result} (k : Met w i c (gave r) w₁) (l : Met w₁ i d (gave q) w₂) where
@@ -135,9 +101,9 @@ module _ (c d : Call Site) {a n b m : ℕ} (L : Local c a n) (K : Local d b m) {
   both-get = let G = local-gets c L k in gets-as (gets-again G (local-gets d K l)) (ap (λ P. bounded (within b m K.does P)) G.held)
 
   -- the second answers as it would without the first
-  second-said : Apart b m a n → q ≡ K.said (held_by w i)
+  second-said : Apart b m a n → q ≡ (plan fed_at d).gives (held_by w i)
   second-said h =
-      local-said d K l ∙ ap K.said (local-gets c L k).held
+      given-is l ∙ ap (plan fed_at d).gives (local-gets c L k).held
       ∙ sym (K.told (held_by w i) (bounded (within a n L.does (held_by w i))) (unseen b m a n L.does (held_by w i) h))
 
 -- ---- the laws
@@ -147,8 +113,8 @@ pub ranges_apart : (c d : Call Site) {a n b m : ℕ} {w w₁ w₂ v₁ v₂ : Li
 ranges_apart c d {a} {n} {b} {m} {w} {i = i} C D h k l k' l' =
     let L = local C in
     let K = local D in (
-      local-said c L k ∙ sym (second-said d c K L k' l' apart),
-      second-said c d L K k l (λ x e f. apart x f e) ∙ sym (local-said d K k'),
+      given-is k ∙ sym (second-said d c K L k' l' apart),
+      second-said c d L K k l (λ x e f. apart x f e) ∙ sym (given-is k'),
       gets-one (both-get c d L K k l) (both-get d c K L k' l') (within-apart a n L.does b m K.does (held_by w i) apart),
     )
   where

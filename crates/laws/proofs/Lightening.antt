@@ -17,9 +17,9 @@ use Rattle.pool.proofs.WorldLists.{opened-world}
 use Rattle.interval_bit_set.specs.Met.{Readable, Met}
 use Rattle.laws.specs.Pairs.{Did, Shifts, none, shift}
 use Rattle.laws.proofs.Moving.{moved, moved-few}
-use Rattle.laws.proofs.Doing.{readable-now}
-use Rattle.laws.proofs.Calls.{shift-done, shift-readable, shift-settled, shift-gets}
-use Rattle.laws.proofs.Swapping.{call-readable}
+use Rattle.interval_bit_set.proofs.Giving.{given-readable, given-settled}
+use Rattle.laws.proofs.Doing.{readable-now, given-gets}
+use Rattle.laws.proofs.Calls.{shift-done}
 
 -- ---- worlds as they were and as they became
 -- a world has no more runs, and the same limits
@@ -104,21 +104,21 @@ lightened_same w = record { long = refl; still-readable = λ i R. R; lighter = a
 -- by a shift that was done
 shift-lightens : {w w' : List ℕ} {j : ℕ} (d : ℕ) (left : Bool) → Did w j (Call.shift d left) w' → Lightened w w'
 shift-lightens {w} {w'} {j} d left m = record {
-  long = (shift-settled d left m).long;
-  still-readable = readable-now (shift-readable d left m) (shift-settled d left m);
-  lighter = subst (AllLighter (worlds_of w)) (sym (shift-gets d left m).worlds) (one-lighter j (moved d left (held_by w j)) (worlds_of w) few);
+  long = (given-settled m).long;
+  still-readable = readable-now (given-readable m) (given-settled m);
+  lighter = subst (AllLighter (worlds_of w)) (sym (given-gets m).worlds) (one-lighter j (moved d left (held_by w j)) (worlds_of w) few);
 }
   where
     few : (x : PlainWorld) → world_of (worlds_of w) j ≡ Some x → stretches (moved d left (held_by w j)) ≤ stretches x.positions
     few x e =
-        let o : plain_at w j ≡ x = cc (opened-world w j (shift-readable d left m).openable.named) in
+        let o : plain_at w j ≡ x = cc (opened-world w j (given-readable m).openable.named) in
         subst (λ (y : PlainWorld). stretches (moved d left (held_by w j)) ≤ stretches y.positions) o (moved-few d left (held_by w j))
 
 -- by any shift, refused or not
 any-lightens : {w w' : List ℕ} {j : ℕ} (d : ℕ) (left : Bool) (a : Answer) → Met w j (Call.shift d left) a w' → Lightened w w'
 any-lightens {w} d left (refused n) m = subst (Lightened w) (sym m.left) (lightened_same w)
 any-lightens {w} {w'} {j} d left (gave r) m =
-    shift-lightens d left (subst (λ a. Met w j (Call.shift d left) a w') (shift-done d left (call-readable (Call.shift d left) m) m) m)
+    shift-lightens d left (subst (λ a. Met w j (Call.shift d left) a w') (shift-done d left (given-readable m) m) m)
 
 -- BY SHIFTS
 pub shifts-lighten : {w v : List ℕ} → Shifts w v → Lightened w v

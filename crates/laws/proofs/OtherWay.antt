@@ -20,7 +20,7 @@ use Rattle.model.proofs.Edit.{set_to, on_range, set_runs}
 use Rattle.model.proofs.Ops.{set_all, or_runs, combine_runs, shift_left_runs, shift_runs, combine-canon, combine-positions, shift-canon, shift-positions, set-positions, bounded-below}
 use Rattle.model.specs.Refusals.{bad_limits}
 use Rattle.model.specs.Call.{Call, done, Answer, refused, gave}
-use Rattle.model.specs.Model.{positions_of, reads}
+use Rattle.model.specs.Model.{positions_of}
 use Rattle.model.specs.Pools
 use Rattle.model.specs.Pools.{PlainWorld, world_of, claims, other_claims, empty_worlds, make_by}
 use Rattle.pool.specs.Layout.{capacity_of, capacity, allowance, held_by, worlds_of}
@@ -28,14 +28,14 @@ use Rattle.pool.specs.Settle.{Openable}
 use Rattle.pool.proofs.WorldLists.{opened-world}
 use Rattle.interval_bit_set.specs.Met.{site, fed_of, outcome_of, Leaves, Readable, Met, made_of, MakeLeaves, Made}
 use Rattle.interval_bit_set.proofs.Meeting.{readable}
-use Rattle.interval_bit_set.proofs.Changing.{full-before, set_says}
-use Rattle.interval_bit_set.proofs.Overwriting.{both-none, combine-says}
-use Rattle.interval_bit_set.proofs.Refusing.{none_before}
+use Rattle.interval_bit_set.proofs.Changing.{full-before}
+use Rattle.interval_bit_set.proofs.Overwriting.{makes}
+use Rattle.interval_bit_set.proofs.Giving.{given-settled}
 use Rattle.laws.specs.Pairs.{Did}
 use Rattle.laws.specs.Laws.{one_run}
 use Rattle.laws.proofs.Moving.{moved}
-use Rattle.laws.proofs.Doing.{settled_is, not-refused, readable-now}
-use Rattle.laws.proofs.Calls.{shift-done, shift-settled, shift-gets, set-gets, combine-done}
+use Rattle.laws.proofs.Doing.{readable-now, given-gets}
+use Rattle.laws.proofs.Calls.{shift-done, both-quiet, combine-done, set-done}
 
 -- the last position
 abbrev last : ℕ
@@ -57,9 +57,9 @@ shift_runs_lem : {w w' : List ℕ} {rs : List Run} {a : Answer} → Holding w rs
 shift_runs_lem {w} {w'} {rs} H m =
     let k : Did w 0 (Call.shift 1 true) w' = subst (λ b. Met w 0 (Call.shift 1 true) b w') (shift-done 1 true H.can-read m) m in
     record {
-      can-read = readable-now H.can-read (shift-settled 1 true k) 0 H.can-read;
+      can-read = readable-now H.can-read (given-settled k) 0 H.can-read;
       canonical = shift-canon size 1 true rs H.canonical;
-      holds-runs = (shift-gets 1 true k).held ∙ ap (moved 1 true) H.holds-runs ∙ sym (shift-positions 1 true rs H.canonical);
+      holds-runs = (given-gets k).held ∙ ap (moved 1 true) H.holds-runs ∙ sym (shift-positions 1 true rs H.canonical);
     }
 
 -- the OR of two worlds
@@ -121,11 +121,11 @@ module _ (y : ℕ) (computed : set_runs size (first_allowed (Included y)) (exten
       let c : Canon size 0 (run y y ∷ []) = (omega arith, omega arith, l, tt) in
       let R = N.holding.can-read in
       let few : stretches (became (held_by w 0)) ≤ allowance w 0 = omega (arith, runs_of (became (held_by w 0)) (run y y ∷ []) c (set-run N), N.may-have) in
-      let k = subst (λ b. Met w 0 (Call.set (Included y) (Included y) true) b w') (not-refused (set_says w 0 (Included y) (Included y) true) R refl few m) m in
+      let k = subst (λ b. Met w 0 (Call.set (Included y) (Included y) true) b w') (set-done (Included y) (Included y) true R few m).1 m in
       record {
-        can-read = readable-now R (settled_is (set_says w 0 (Included y) (Included y) true) k R) 0 R;
+        can-read = readable-now R (given-settled k) 0 R;
         canonical = c;
-        holds-runs = (set-gets (Included y) (Included y) true k).held ∙ sym (set-run N);
+        holds-runs = (given-gets k).held ∙ sym (set-run N);
       }
 
 -- ---- the case
@@ -150,11 +150,11 @@ module _ {w : List ℕ} (N : New w) {u v : List ℕ} {rs ss : List Run} (H : Hol
   -- an OR of two runs is refused
   or-refused : {w' : List ℕ} {a : Answer} → length (combine_runs Or rs ss) ≡ 2 → Met w 0 (Call.combine Or (site u 0) (site v 0)) a w' → (a ≡ refused 8) × (w' ≡ w)
   or-refused {w'} e m =
-      let quiet = both-none H.can-read K.can-read in
+      let quiet = both-quiet (site u 0) (site v 0) H.can-read K.can-read in
       let over : allowance w 0 < stretches (combined Or (positions_of (fed_of u 0)) (positions_of (fed_of v 0))) =
       subst (λ P. allowance w 0 < stretches P) (sym (ap₂ (λ f g. combined Or (positions_of f) (positions_of g)) H.can-read.fed K.can-read.fed))
       (omega (arith, or-many H K, e, N.may-have)) in
-      let f = m.answered ∙ sym (full-before (combine-says w 0 Or (site u 0) (site v 0)) N.holding.can-read (none_before (reads (fed_of u 0) ++ reads (fed_of v 0)) quiet) (over, refl)).answered in
+      let f = m.answered ∙ sym (full-before (makes {w = w} {i = 0} {c = Call.combine Or (site u 0) (site v 0)} refl quiet) N.holding.can-read refl (over, refl)).answered in
       (f, subst (λ b. Leaves w w' 0 (outcome_of w 0 (Call.combine Or (site u 0) (site v 0))).positions b) f m.left)
 
   -- and one of one run is done

@@ -1,6 +1,5 @@
 -- Two worlds that are each shifted once, in place or into copies: both hold then what they held, shifted, also where they are worlds of one pool, or one
 -- world. So a shift passes through AND, OR and XOR, and what was not refused is not refused of the shifted sets. Assumes nothing.
-use Rattle.std.specs.Prelude.{Ok}
 use Prim.Native.Nat.{ℕ, ◌≤◌}
 use mathlib.Core.Path.{◌≡◌, refl, sym, ap, ap₂, ◌∙◌, subst, subst₂}
 use mathlib.Core.Logic.{◌⊎◌, inl, inr}
@@ -9,34 +8,17 @@ use mathlib.Core.List.{List}
 use native.Mathlib.Nat.{le_trans}
 use Rattle.model.specs.declared.Operation.{Operation}
 use Rattle.model.specs.Positions.{stretches, combined}
-use Rattle.model.specs.Refusals.{looks, first_given}
 use Rattle.model.specs.Call.{holding, Call, done, Answer, gave}
-use Rattle.model.specs.Model.{reads}
 use Rattle.pool.specs.Layout.{allowance, held_by}
 use Rattle.interval_bit_set.specs.Met.{Site, site, fed_at, Readable, Met}
-use Rattle.interval_bit_set.proofs.Looking.{looked-sound}
+use Rattle.interval_bit_set.proofs.Giving.{fed-readable, given-readable, given-settled}
 use Rattle.laws.specs.Pairs.{Did, holds, SameLeft, BothShift, two_pools, one_pool, one_pool_turned, one_world, BothShifted, into_pools, into_pool, into_pool_turned, into_world}
 use Rattle.laws.specs.Pairs.{Shifts}
 use Rattle.laws.proofs.Moving.{moved, moved-few}
 use Rattle.laws.proofs.Joining.{moved-through}
 use Rattle.laws.proofs.Lightening.{Lightened, shifts-lighten, allowance-rises}
-use Rattle.laws.proofs.Doing.{gets-again, gets-same, readable-now, readable-before, held-other, allowance-now}
-use Rattle.laws.proofs.Calls.{
-  shift-done,
-  shift-readable,
-  shift-settled,
-  shift-gets,
-  shifted-readable,
-  shifted-settled,
-  shifted-gets,
-  combine-done,
-  combine-readable,
-  combine-first,
-  combine-second,
-  combine-settled,
-  combine-gets,
-  combine-fits,
-}
+use Rattle.laws.proofs.Doing.{gets-again, gets-same, readable-now, readable-before, held-other, allowance-now, given-gets}
+use Rattle.laws.proofs.Calls.{shift-done, shifted-gets, combine-done, combine-first, combine-second, combine-gets, combine-fits}
 
 -- the worlds s and t hold what s₀ and t₀ held, shifted
 pub record Moved (d : ℕ) (left : Bool) (s₀ t₀ s t : Site) : Type 0 where
@@ -53,24 +35,24 @@ module _ (d : ℕ) (left : Bool) where
   -- another world of the pool, shifted after the first
   second-held : {u u' u'' : List ℕ} {j k : ℕ} → (j ≡ k → ⊥) → Did u j (Call.shift d left) u' → Did u' k (Call.shift d left) u'' → held_by u'' k ≡ moved d left (held_by u k)
   second-held {u} {u'} {u''} {j} {k} ne m n =
-      let R = shift-readable d left m in
-      let S = shift-settled d left m in
-      let Q = readable-before R S k (shift-readable d left n) in
-      (shift-gets d left n).held ∙ ap (moved d left) (held-other R S k Q (λ e. ne (sym e)))
+      let R = given-readable m in
+      let S = given-settled m in
+      let Q = readable-before R S k (given-readable n) in
+      (given-gets n).held ∙ ap (moved d left) (held-other R S k Q (λ e. ne (sym e)))
 
   -- which leaves the first as it is
   first-held : {u u' u'' : List ℕ} {j k : ℕ} → (j ≡ k → ⊥) → Did u j (Call.shift d left) u' → Did u' k (Call.shift d left) u'' → held_by u'' j ≡ moved d left (held_by u j)
   first-held {u} {u'} {u''} {j} {k} ne m n =
-      let R = shift-readable d left m in
-      let Q = readable-now R (shift-settled d left m) j R in
-      held-other (shift-readable d left n) (shift-settled d left n) j Q ne ∙ (shift-gets d left m).held
+      let R = given-readable m in
+      let Q = readable-now R (given-settled m) j R in
+      held-other (given-readable n) (given-settled n) j Q ne ∙ (given-gets m).held
 
   pub both-moved : {s t s' t' : Site} → BothShift d left (gave done) (gave done) s t s' t' → Moved d left s t s' t'
-  both-moved (two_pools m n) = record { first_holds = (shift-gets d left m).held; second_holds = (shift-gets d left n).held }
+  both-moved (two_pools m n) = record { first_holds = (given-gets m).held; second_holds = (given-gets n).held }
   both-moved (one_pool ne m n) = record { first_holds = first-held ne m n; second_holds = second-held ne m n }
   both-moved (one_pool_turned ne m n) =
       record { first_holds = second-held (λ e. ne (sym e)) m n; second_holds = first-held (λ e. ne (sym e)) m n }
-  both-moved (one_world m) = record { first_holds = (shift-gets d left m).held; second_holds = (shift-gets d left m).held }
+  both-moved (one_world m) = record { first_holds = (given-gets m).held; second_holds = (given-gets m).held }
 
   -- nothing of it is refused, where the worlds can be read
   pub both-done : {a b : Answer} {s t s' t' : Site} → BothShift d left a b s t s' t' → Readables s t → (a ≡ gave done) × (b ≡ gave done)
@@ -78,37 +60,37 @@ module _ (d : ℕ) (left : Bool) where
   both-done (one_pool {u = u} {u' = u'} {j = j} {k = k} ne m n) R =
       let e = shift-done d left R.first_read m in
       let m' : Did u j (Call.shift d left) u' = subst (λ c. Met u j (Call.shift d left) c u') e m in
-      (e, shift-done d left (readable-now R.first_read (shift-settled d left m') k R.second-read) n)
+      (e, shift-done d left (readable-now R.first_read (given-settled m') k R.second-read) n)
   both-done (one_pool_turned {u = u} {u' = u'} {j = j} {k = k} ne m n) R =
       let e = shift-done d left R.second-read m in
       let m' : Did u k (Call.shift d left) u' = subst (λ c. Met u k (Call.shift d left) c u') e m in
-      (shift-done d left (readable-now R.second-read (shift-settled d left m') j R.first_read) n, e)
+      (shift-done d left (readable-now R.second-read (given-settled m') j R.first_read) n, e)
   both-done (one_world m) R = let e = shift-done d left R.first_read m in (e, e)
 
   -- and they can be read afterwards
   still_read : {u u' : List ℕ} {j : ℕ} (k : ℕ) → Did u j (Call.shift d left) u' → Readable u k → Readable u' k
-  still_read k m R = readable-now (shift-readable d left m) (shift-settled d left m) k R
+  still_read k m R = readable-now (given-readable m) (given-settled m) k R
 
   pub both-readable : {s t s' t' : Site} → BothShift d left (gave done) (gave done) s t s' t' → Readables s' t'
   both-readable (two_pools {j = j} {k = k} m n) =
-      record { first_read = still_read j m (shift-readable d left m); second-read = still_read k n (shift-readable d left n) }
+      record { first_read = still_read j m (given-readable m); second-read = still_read k n (given-readable n) }
   both-readable (one_pool {j = j} {k = k} ne m n) = record {
-    first_read = still_read j n (still_read j m (shift-readable d left m));
-    second-read = still_read k n (shift-readable d left n);
+    first_read = still_read j n (still_read j m (given-readable m));
+    second-read = still_read k n (given-readable n);
   }
   both-readable (one_pool_turned {j = j} {k = k} ne m n) = record {
-    first_read = still_read j n (shift-readable d left n);
-    second-read = still_read k n (still_read k m (shift-readable d left m));
+    first_read = still_read j n (given-readable n);
+    second-read = still_read k n (still_read k m (given-readable m));
   }
-  both-readable (one_world {j = j} m) = let R = still_read j m (shift-readable d left m) in record { first_read = R; second-read = R }
+  both-readable (one_world {j = j} m) = let R = still_read j m (given-readable m) in record { first_read = R; second-read = R }
 
   -- ---- copies
   -- a world that got a copy keeps it while another world of its pool gets one
   copy-kept : {s t : Site} {u u' u'' : List ℕ} {j k : ℕ} → (j ≡ k → ⊥) → Did u j (Call.shifted d left s) u' → Did u' k (Call.shifted d left t) u'' → held_by u'' j ≡ moved d left (holds s)
   copy-kept {s} {t} {j = j} ne m n =
-      let R = shifted-readable d left s m in
-      let Q = readable-now R (shifted-settled d left s m) j R in
-      held-other (shifted-readable d left t n) (shifted-settled d left t n) j Q ne ∙ (shifted-gets d left s m).held
+      let R = given-readable m in
+      let Q = readable-now R (given-settled m) j R in
+      held-other (given-readable n) (given-settled n) j Q ne ∙ (shifted-gets d left s m).held
 
   pub both-copied : {s t s' t' : Site} → BothShifted d left s t s' t' → Moved d left s t s' t'
   both-copied (into_pools {s = s} {t = t} m n) = record { first_holds = (shifted-gets d left s m).held; second_holds = (shifted-gets d left t n).held }
@@ -126,7 +108,7 @@ record Alike (s s₁ : Site) : Type 0 where
 fed-alike : {s s₁ : Site} → Readable s.words s.world → fed_at s₁ ≡ fed_at s → Alike s s₁
 fed-alike {s} {s₁} R f =
     let e : fed_at s₁ ≡ holding (holds s) = f ∙ R.fed in
-    let S : Readable s₁.words s₁.world = looked-sound {T = Unit {0}} (Ok tt) (sym (ap (λ x. first_given looks (reads x)) e)) refl in
+    let S : Readable s₁.words s₁.world = fed-readable s₁.words s₁.world e in
     record { can_read = S; holds_it = cc (S.fed, e) }
 
 -- ---- AND, OR and XOR of them
@@ -140,7 +122,7 @@ module _ (op : Operation) (d : ℕ) (left : Bool) {s t s' t' : Site} where
       → Did v j (Call.combine op s' t') v₁ → SameLeft w i w₂ v j v₁
   place-through m n M k =
       let G = combine-gets op s t m in
-      gets-same (gets-again G (shift-gets d left n)) (combine-gets op s' t' k) (ap (moved d left) G.held ∙ sym (join-moved M))
+      gets-same (gets-again G (given-gets n)) (combine-gets op s' t' k) (ap (moved d left) G.held ∙ sym (join-moved M))
 
   -- and where a shifted copy of it is made
   pub copy-through : {w w₁ x x₁ v v₁ : List ℕ} {i h j : ℕ} → Did w i (Call.combine op s t) w₁ → Did x h (Call.shifted d left (site w₁ i)) x₁ → Moved d left s t s' t'
@@ -173,8 +155,8 @@ module _ (op : Operation) (d : ℕ) (left : Bool) {s t s' t' : Site} where
       into R S few L = combine-done op s' t' (L.still-readable i S) R.first_read R.second-read (le_trans few (allowance-rises i L)) k
 
       go : Readables s' t' → stretches (combined op (holds s') (holds t')) ≤ allowance w i → Shifts w v ⊎ Shifts w₁ v → c ≡ gave done
-      go R few (inl f) = into R (combine-readable op s t m) few (shifts-lighten f)
+      go R few (inl f) = into R (given-readable m) few (shifts-lighten f)
       go R few (inr f) =
-          let S = combine-settled op s t m in
-          into R (readable-now (combine-readable op s t m) S i (combine-readable op s t m))
+          let S = given-settled m in
+          into R (readable-now (given-readable m) S i (given-readable m))
           (subst (λ n. stretches (combined op (holds s') (holds t')) ≤ n) (sym (allowance-now S.long (combine-gets op s t m))) few) (shifts-lighten f)

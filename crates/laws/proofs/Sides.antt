@@ -18,9 +18,8 @@ use Rattle.model.proofs.Runs.{stretches-cong}
 use Rattle.pool.specs.Layout.{allowance, held_by, worlds_of}
 use Rattle.pool.proofs.Turn.{pool-past}
 use Rattle.interval_bit_set.specs.Met.{Met}
-use Rattle.interval_bit_set.proofs.Changing.{set_says}
-use Rattle.interval_bit_set.proofs.Served.{bounded-ends}
-use Rattle.interval_bit_set.proofs.Simulation.{same-positions}
+use Rattle.interval_bit_set.proofs.Giving.{given-readable, given-settled, given-is}
+use Rattle.interval_bit_set.proofs.Simulation.{bounded-ends, same-positions}
 use Rattle.laws.specs.Pairs.{Did}
 use Rattle.laws.specs.Swaps.{Within, Covers}
 use Rattle.laws.proofs.Ranges.{
@@ -33,9 +32,8 @@ use Rattle.laws.proofs.Ranges.{
   turns-undo,
   changes-alike,
 }
-use Rattle.laws.proofs.Doing.{Gets, gave-is, allowance-now, gets-again, gets-as, gets-one, gets_back}
-use Rattle.laws.proofs.Calls.{set-done, set-readable, set-settled, set-gets, set-fits, set-count, flip-readable, flip-gets}
-use Rattle.laws.proofs.Swapping.{call-readable}
+use Rattle.laws.proofs.Doing.{Gets, allowance-now, gets-again, gets-as, gets-one, gets_back, given-gets}
+use Rattle.laws.proofs.Calls.{set-done, set-fits, set-count}
 
 -- ---- ranges by their bounds
 -- a position among them satisfies both
@@ -68,15 +66,15 @@ changed l u b P = changes P (set_range (first_allowed l) (extent l u) b P)
 module _ (l u : Bound) (b : Bool) {w w₁ w₂ : List ℕ} {i n : ℕ} (s : Met w i (Call.set l u b) (gave (number n)) w₁) where
   -- a set after a set
   set-then-set : (l' u' : Bound) (b' : Bool) {m : ℕ} → Met w₁ i (Call.set l' u' b') (gave (number m)) w₂ → Gets w i w₂ (put_in l' u' b' (put_in l u b (held_by w i)))
-  set-then-set l' u' b' t = let G = set-gets l u b s in gets-as (gets-again G (set-gets l' u' b' t)) (ap (put_in l' u' b') G.held)
+  set-then-set l' u' b' t = let G = given-gets s in gets-as (gets-again G (given-gets t)) (ap (put_in l' u' b') G.held)
 
   then-count : (l' u' : Bound) (b' : Bool) {m : ℕ} → Met w₁ i (Call.set l' u' b') (gave (number m)) w₂ → m ≡ changed l' u' b' (put_in l u b (held_by w i))
-  then-count l' u' b' t = set-count l' u' b' t ∙ ap (changed l' u' b') (set-gets l u b s).held
+  then-count l' u' b' t = set-count l' u' b' t ∙ ap (changed l' u' b') (given-gets s).held
 
 module _ (l u : Bound) {w w₁ w₂ : List ℕ} {i : ℕ} (f : Did w i (Call.flip l u) w₁) where
   -- a flip after a flip
   flip-then-flip : (l' u' : Bound) → Did w₁ i (Call.flip l' u') w₂ → Gets w i w₂ (turn_in l' u' (turn_in l u (held_by w i)))
-  flip-then-flip l' u' t = let G = flip-gets l u f in gets-as (gets-again G (flip-gets l' u' t)) (ap (turn_in l' u') G.held)
+  flip-then-flip l' u' t = let G = given-gets f in gets-as (gets-again G (given-gets t)) (ap (turn_in l' u') G.held)
 
 -- ---- the laws
 module _ (l u l' u' : Bound) where
@@ -113,7 +111,7 @@ module _ (l u l' u' : Bound) where
   set-alone : (b b' : Bool) {w w₁ w₂ : List ℕ} {i n m : ℕ} → Covers l u l' u' → Met w i (Call.set l u b) (gave (number n)) w₁ → Met w₁ i (Call.set l' u' b') (gave (number m)) w₂
       → stretches (set_range a₂ n₂ b' (held_by w i)) ≤ allowance w i
   set-alone b b' {w} {w₁} {w₂} {i} C s t =
-      let G = set-gets l u b s in
+      let G = given-gets s in
       let P = set_range a₂ n₂ b' (held_by w₁ i) in
       let Q = set_range a₂ n₂ b' (held_by w i) in
       let same : bounded P ≡ bounded Q = ap (put_in l' u' b') G.held ∙ puts-covered a₁ n₁ b a₂ n₂ (held_by w i) b' (covered-by l u l' u' C) in
@@ -121,16 +119,16 @@ module _ (l u l' u' : Bound) where
         arith,
         stretches-cong P Q (λ x h. sym (bounded-below P x h) ∙ ap (λ R. R x) same ∙ bounded-below Q x h),
         set-fits l' u' b' t,
-        allowance-now (set-settled l u b s).long G,
+        allowance-now (given-settled s).long G,
       )
 
   -- so it is needless
   set_first : (b b' : Bool) {w w₁ w₂ v : List ℕ} {i n m : ℕ} {c : Answer} → Covers l u l' u' → Met w i (Call.set l u b) (gave (number n)) w₁
       → Met w₁ i (Call.set l' u' b') (gave (number m)) w₂ → Met w i (Call.set l' u' b') c v → ((m' : ℕ) × (c ≡ gave (number m'))) × (worlds_of w₂ ≡ worlds_of v)
   set_first b b' {w} {v = v} {i = i} C s t k =
-      let e = set-done l' u' b' (set-readable l u b s) (set-alone b b' C s t) k in
+      let e = set-done l' u' b' (given-readable s) (set-alone b b' C s t) k in
       let k' = subst (λ a. Met w i (Call.set l' u' b') a v) e.1 k in
-      (e, gets-one (set-then-set l u b s l' u' b' t) (set-gets l' u' b' k') (puts-covered a₁ n₁ b a₂ n₂ (held_by w i) b' (covered-by l u l' u' C)))
+      (e, gets-one (set-then-set l u b s l' u' b' t) (given-gets k') (puts-covered a₁ n₁ b a₂ n₂ (held_by w i) b' (covered-by l u l' u' C)))
 
   -- also if it is refused
   pub set-needless : (b b' : Bool) {w w₁ w₂ v : List ℕ} {i m : ℕ} {a c : Answer} → Covers l u l' u' → Met w i (Call.set l u b) a w₁
@@ -139,12 +137,12 @@ module _ (l u l' u' : Bound) where
     where
       go : (a : Answer) → Met w i (Call.set l u b) a w₁ → ((m' : ℕ) × (c ≡ gave (number m'))) × (worlds_of w₂ ≡ worlds_of v)
       go (gave r) s =
-          let e = gave-is (set_says w i l u b) s (call-readable (Call.set l u b) s) in
+          let e = given-is s in
           set_first b b' C (subst (λ q. Met w i (Call.set l u b) (gave q) w₁) e s) t k
       go (refused x) s =
           let t' : Met w i (Call.set l' u' b') (gave (number m)) w₂ = subst (λ z. Met z i (Call.set l' u' b') (gave (number m)) w₂) s.left t in
           let e = k.answered ∙ sym t'.answered in
-          ((m, e), gets-one (set-gets l' u' b' t') (set-gets l' u' b' (subst (λ z. Met w i (Call.set l' u' b') z v) e k)) refl)
+          ((m, e), gets-one (given-gets t') (given-gets (subst (λ z. Met w i (Call.set l' u' b') z v) e k)) refl)
 
   -- two flips
   pub flips-either : {w w₁ w₂ v₁ v₂ : List ℕ} {i : ℕ} → Did w i (Call.flip l u) w₁ → Did w₁ i (Call.flip l' u') w₂ → Did w i (Call.flip l' u') v₁ → Did v₁ i (Call.flip l u) v₂
@@ -154,7 +152,7 @@ module _ (l u l' u' : Bound) where
 -- a flip and the same again
 pub flip-again : (l u : Bound) {w w₁ w₂ : List ℕ} {i : ℕ} → Did w i (Call.flip l u) w₁ → Did w₁ i (Call.flip l u) w₂ → worlds_of w₂ ≡ worlds_of w
 flip-again l u {w} {i = i} f g =
-    gets_back (flip-readable l u f)
+    gets_back (given-readable f)
     (gets-as (flip-then-flip l u f l u g)
     (same-positions (turn_in l u (turn_in l u (held_by w i))) (held_by w i) (bounded-ends (flip_range (first_allowed l) (extent l u) (turn_in l u (held_by w i)))) (pool-past w i)
     (turns-undo (first_allowed l) (extent l u) (held_by w i))))

@@ -19,27 +19,27 @@ use Rattle.pool.specs.Layout.{held_by, worlds_of}
 use Rattle.pool.proofs.Turn.{pool-past}
 use Rattle.pool.proofs.Worlds.{held-allowed}
 use Rattle.interval_bit_set.specs.Met.{Site, site, Met}
-use Rattle.interval_bit_set.proofs.Served.{bounded-ends}
-use Rattle.interval_bit_set.proofs.Simulation.{same-positions}
+use Rattle.interval_bit_set.proofs.Giving.{given-readable}
+use Rattle.interval_bit_set.proofs.Simulation.{bounded-ends, same-positions}
 use Rattle.laws.specs.Pairs.{Did, holds, SameLeft}
 use Rattle.laws.proofs.Moving.{moved, past, moved-few, moved_sum, moved_nothing, out-and-back, out-and-lost, down-and-up, down-and-lost}
 use Rattle.laws.proofs.Ranges.{put}
-use Rattle.laws.proofs.Doing.{Gets, gets-again, gets-as, gets-same, gets-one}
-use Rattle.laws.proofs.Calls.{shift-readable, shift-gets, shifted-gets, set-done, set-gets}
+use Rattle.laws.proofs.Doing.{Gets, gets-again, gets-as, gets-same, gets-one, given-gets}
+use Rattle.laws.proofs.Calls.{shifted-gets, set-done}
 
 -- a copy holds what the shift in place leaves
 pub copy_is : (d : ℕ) (left : Bool) {w w' v v' : List ℕ} {i j : ℕ} → Did w i (Call.shift d left) w' → Did v j (Call.shifted d left (site w i)) v' → held_by w' i ≡ held_by v' j
-copy_is d left {w} {i = i} m n = (shift-gets d left m).held ∙ sym (shifted-gets d left (site w i) n).held
+copy_is d left {w} {i = i} m n = (given-gets m).held ∙ sym (shifted-gets d left (site w i) n).held
 
 -- ---- in place
 -- by d and by e, each to its side
 place_twice : (d e : ℕ) (left right : Bool) {w w₁ w₂ : List ℕ} {i : ℕ} → Did w i (Call.shift d left) w₁ → Did w₁ i (Call.shift e right) w₂ → Gets w i w₂ (moved e right (moved d left (held_by w i)))
-place_twice d e left right m n = let G = shift-gets d left m in gets-as (gets-again G (shift-gets e right n)) (ap (moved e right) G.held)
+place_twice d e left right m n = let G = given-gets m in gets-as (gets-again G (given-gets n)) (ap (moved e right) G.held)
 
 module _ (d e : ℕ) (left : Bool) {w w₁ w₂ : List ℕ} {i : ℕ} (m : Did w i (Call.shift d left) w₁) (n : Did w₁ i (Call.shift e left) w₂) where
   -- the same way: as by the sum
   pub twice-add : {v : List ℕ} → Did w i (Call.shift (d + e) left) v → worlds_of w₂ ≡ worlds_of v
-  twice-add k = gets-one (place_twice d e left left m n) (shift-gets (d + e) left k) (moved_sum d e left (held_by w i))
+  twice-add k = gets-one (place_twice d e left left m n) (given-gets k) (moved_sum d e left (held_by w i))
 
   pub twice-empty : size ≤ d + e → held_by w₂ i ≡ empty
   twice-empty h = (place_twice d e left left m n).held ∙ moved_sum d e left (held_by w i) ∙ moved_nothing (d + e) left (held_by w i) h
@@ -96,7 +96,7 @@ module _ (d : ℕ) {w w₁ w₂ : List ℕ} {i : ℕ} where
       let P = held_by w i in
       let Q = set_range (first_allowed (Excluded (size - 1 - d))) (extent (Excluded (size - 1 - d)) Unbounded) false P in
       let same : moved d false (moved d true P) ≡ bounded Q = back-clears d P h (pool-past w i) in
-      let R = shift-readable d true m in
+      let R = given-readable m in
       let e = set-done (Excluded (size - 1 - d)) Unbounded false R
       (omega (
         arith,
@@ -107,7 +107,7 @@ module _ (d : ℕ) {w w₁ w₂ : List ℕ} {i : ℕ} where
       ))
       c in
       let k = subst (λ z. Met w i (Call.set (Excluded (size - 1 - d)) Unbounded false) z v) e.1 c in
-      (e, gets-one (place_twice d d true false m n) (set-gets (Excluded (size - 1 - d)) Unbounded false k) same)
+      (e, gets-one (place_twice d d true false m n) (given-gets k) same)
 
   -- right then left by d: what is at least d is kept, and nothing below it
   pub twice-forth : Did w i (Call.shift d false) w₁ → Did w₁ i (Call.shift d true) w₂
