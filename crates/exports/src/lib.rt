@@ -450,7 +450,7 @@ pub extern "C" fn vizturel_abi_mend(
 ) -> u64
     ensures { MendsFlat words.old world bytes.now out.old report.old answer.old result answer.new out.new report.new words.new }
 {
-    let given = interval_bit_set::bytes::mend(words, world, bytes, out, report);
+    let given = interval_bit_set::mend::mend(words, world, bytes, out, report);
     flat::record(given, answer)
 }
 

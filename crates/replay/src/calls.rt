@@ -5,7 +5,7 @@
 use crate::answer;
 use crate::answer::{Outcome, Reply};
 use crate::line::{Argument, Bytes, Fault, Lent, Pairs, Tokens};
-use interval_bit_set::{bytes, cells, change, report, write};
+use interval_bit_set::{bytes, cells, change, mend, report, write};
 use model::{Edition, Listing};
 
 // Makes a call with what the rest of the line tells.
@@ -35,7 +35,7 @@ pub fn convert(line: Tokens<'_>) -> Result<Reply, Fault> {
 
 // ---- changes
 fn mend(store: &mut [u64], world: u64, set: &[u8], mut out: Vec<u8>, mut notes: Vec<u8>) -> Reply {
-    let m = bytes::mend(store, world, set, out.as_mut_slice(), notes.as_mut_slice());
+    let m = mend::mend(store, world, set, out.as_mut_slice(), notes.as_mut_slice());
     answer::mended(m, out, notes)
 }
 
