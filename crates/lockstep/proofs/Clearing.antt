@@ -2,13 +2,12 @@
 -- was, and a map that a world wrote stays as it is. Assumes nothing.
 use Rattle.std.specs.Prelude.{None}
 use Prim.Native.Nat.{ℕ}
-use mathlib.Core.Path.{◌≡◌, refl, sym, ap, ap₂, ◌∙◌, subst}
+use mathlib.Core.Path.{◌≡◌, refl, sym, ap, ◌∙◌, subst}
 use mathlib.Core.Bool.{Bool, true, false}
 use mathlib.Core.List.{List, [], ◌∷◌}
-use lib.ListN.{length, take}
-use Rattle.model.specs.Bytes.{map_of, into_front}
+use Rattle.model.specs.Bytes.{map_of}
 use Rattle.model.specs.Refusals.{◌when◌, window, output_short, refusal, bad_window, no_room}
-use Rattle.model.specs.Call.{Call, number, written, Answer, gave}
+use Rattle.model.specs.Call.{Call, number, Answer, gave}
 use Rattle.model.specs.Model.{plan, Outcome, serve}
 use Rattle.model.specs.Clearing.{clear_map}
 use Rattle.model.proofs.Clearing.{clears-no-written-map, clears-twice, clears-none-twice, reads-as-document-one}
@@ -16,7 +15,7 @@ use Rattle.pool.specs.Layout.{held_by}
 use Rattle.interval_bit_set.specs.Met.{fed_at, fed_of, full_at, outcome_of, Leaves, Met}
 use Rattle.interval_bit_set.specs.Handles.{Handles}
 use Rattle.interval_bit_set.proofs.Giving.{some-not, given-quiet, given-is}
-use Rattle.interval_bit_set.proofs.Putting.{take-front}
+use Rattle.lockstep.proofs.Writing.{front-is}
 use Rattle.lockstep.specs.Clearing.{old_reading, WritesMap}
 
 module _ (base n : ℕ) (bs : List ℕ) where
@@ -59,10 +58,7 @@ pub record Mapped (w : List ℕ) (i base n : ℕ) (bs : List ℕ) : Type 0 where
 written-map : {w : List ℕ} {i base n : ℕ} {bs : List ℕ} → WritesMap w i base n bs → Mapped w i base n bs
 written-map {w} {i} {base} {n} W =
     let ms = map_of (held_by w i) base n in
-    let f : written W.count W.slice ≡ written (length ms) (into_front ms W.out) = given-is W.met in
-    let k : W.count ≡ length ms = cc in
-    let l : W.slice ≡ into_front ms W.out = cc in
-    record { good = window-good (no_room W.out ms) (bad_window base n) (given-quiet W.met); is = W.bytes ∙ ap₂ take k l ∙ take-front ms W.out }
+    record { good = window-good (no_room W.out ms) (bad_window base n) (given-quiet W.met); is = W.bytes ∙ front-is ms W.out (given-is W.met) }
 
 -- clear_map leaves a map that write_map wrote, and answers 0
 pub written-stays :

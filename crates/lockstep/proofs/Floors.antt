@@ -9,36 +9,7 @@ use native.Mathlib.Omega.{arith}
 use borrow.Author.Tests.{le-ltb}
 use Rattle.model.specs.Positions.{Positions, bounded, stretches}
 use Rattle.model.proofs.Runs.{stretches-cong}
-use Rattle.model.specs.Refusals.{
-  Cause,
-  store_length,
-  world_limits,
-  store_unsound,
-  world_unopened,
-  tree_height,
-  gap_length,
-  range_reversed,
-  off_plane,
-  not_refused,
-  window,
-  stray_bit,
-  set_short,
-  set_version,
-  set_length,
-  run_order,
-  output_short,
-  number_of,
-  order,
-  Condition,
-  ◌when◌,
-  earns_length,
-  earns_unsound,
-  earns_unopened,
-  given,
-  first_given,
-  refusal,
-  too_many,
-}
+use Rattle.model.specs.Refusals.{Cause, number_of, order, earns_length, earns_unsound, earns_unopened, Condition, given, first_given, refusal, too_many}
 use Rattle.model.specs.Refusals
 use Rattle.model.specs.Call.{Fed, Call, Result, Answer, refused, gave}
 use Rattle.model.specs.Model.{Effect, Plan, plan, positions_of, any_earns, look, or_else, first_refusal, room, left_by, settle, serve}
@@ -65,23 +36,8 @@ given-number (k ∷ ks) cs {n} e = go (given k cs) refl (given-number ks cs) e
 
 -- 8 is the number of one cause
 eight_is : (k : Cause) → number_of k ≡ 8 → k ≡ Refusals.capacity
-eight_is store_length e = absurd (omega arith)
-eight_is world_limits e = absurd (omega arith)
-eight_is store_unsound e = absurd (omega arith)
-eight_is world_unopened e = absurd (omega arith)
-eight_is tree_height e = absurd (omega arith)
-eight_is gap_length e = absurd (omega arith)
-eight_is range_reversed e = absurd (omega arith)
-eight_is off_plane e = absurd (omega arith)
-eight_is not_refused e = absurd (omega arith)
-eight_is window e = absurd (omega arith)
-eight_is stray_bit e = absurd (omega arith)
-eight_is set_short e = absurd (omega arith)
-eight_is set_version e = absurd (omega arith)
-eight_is set_length e = absurd (omega arith)
-eight_is run_order e = absurd (omega arith)
 eight_is Refusals.capacity e = refl
-eight_is output_short e = absurd (omega arith)
+eight_is k e = absurd (omega arith)
 
 -- so it is given where that cause is
 eight-given : (ks : List Cause) (cs : List Condition) → first_given ks cs ≡ Some 8 → given Refusals.capacity cs ≡ true

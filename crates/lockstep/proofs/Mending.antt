@@ -3,7 +3,7 @@
 -- refuses it. Assumes nothing.
 use Rattle.std.specs.Prelude.{Some}
 use Prim.Native.Nat.{ℕ, ◌≤◌}
-use mathlib.Core.Path.{◌≡◌, sym, ap, ap₂, ◌∙◌, subst}
+use mathlib.Core.Path.{◌≡◌, sym, ap, ◌∙◌, subst}
 use mathlib.Core.Bool.{true}
 use mathlib.Core.List.{List}
 use native.Mathlib.Omega.{arith}
@@ -25,7 +25,7 @@ use Rattle.pool.specs.Settle.{Settled, Openable}
 use Rattle.union.proofs.Fating.{fates-length, ordered-fates}
 use Rattle.interval_bit_set.specs.Met.{full_at, Met}
 use Rattle.interval_bit_set.proofs.Changing.{fits-few}
-use Rattle.interval_bit_set.proofs.Putting.{take-front}
+use Rattle.lockstep.proofs.Writing.{front-is}
 use Rattle.interval_bit_set.proofs.Giving.{quiet-fits, given-readable, given-quiet, given-is, given-settled}
 use Rattle.interval_bit_set.proofs.Mending.{allowed-most, conditions}
 use Rattle.lockstep.specs.Determinism.{Loads}
@@ -40,11 +40,7 @@ module _ (w : List ℕ) (i : ℕ) (bs out report : List ℕ) where
 
     -- the mended set is in front of one
     set_is : take n out' ≡ mended_set bs
-    set_is =
-        let f = filled in
-        let a : n ≡ length (mended_set bs) = cc in
-        let b : out' ≡ into_front (mended_set bs) out = cc in
-        ap₂ take a b ∙ take-front (mended_set bs) out
+    set_is = let f = filled in front-is (mended_set bs) out cc
 
     -- so a reader that knows edition 1 alone gives 4 to it, where the set read was of edition 2
     pub mend-old-refused : edition_of bs ≡ Columns → document_one_refusal (take n out') ≡ Some 4
@@ -58,10 +54,7 @@ module _ (w : List ℕ) (i : ℕ) (bs out report : List ℕ) where
     report-many = let f = filled in cc
 
     report-is : take m report' ≡ mend_report bs
-    report-is =
-        let f = filled in
-        let b : report' ≡ into_front (mend_report bs) report = cc in
-        ap₂ take report-many b ∙ take-front (mend_report bs) report
+    report-is = let f = filled in front-is (mend_report bs) report cc
 
     -- a set that loads comes back, and each of its runs is kept
     pub right-comes-back : {C : ℕ} → AllBytes bs → Loads C bs → (take n out' ≡ bs) × (take m report' ≡ replicate m 2)

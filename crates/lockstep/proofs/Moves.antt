@@ -11,27 +11,7 @@ use Rattle.model.specs.declared.Mended.{Mended}
 use Rattle.model.specs.declared.Run.{Run}
 use Rattle.model.specs.Answers.{OrRefusal, written_answer, mended_answer}
 use Rattle.model.specs.Refusals.{output_short, ◌when◌, refusal, no_room}
-use Rattle.model.specs.Call.{
-  Call,
-  make,
-  measure,
-  at,
-  PoolCall,
-  told_as,
-  done,
-  number,
-  tallied,
-  value,
-  around,
-  position,
-  drawn,
-  written,
-  mended,
-  Result,
-  Answer,
-  refused,
-  gave,
-}
+use Rattle.model.specs.Call.{Call, make, measure, at, PoolCall, told_as, done, Answer, refused, gave}
 use Rattle.model.specs.Model.{plan, or_else}
 use Rattle.model.specs.Pools.{PlainWorld, step, answers, after}
 use Rattle.pool.specs.Layout.{capacity_of, capacity, worlds_of}
@@ -93,15 +73,7 @@ pub record Went (C : ℕ) (o : MoveOutcome) (w : List ℕ) (m : Move (Call Site)
 nothing-left : (a : Answer) → nothing ≡ lent_after a nothing
 nothing-left (refused n) = refl
 nothing-left (gave done) = refl
-nothing-left (gave (number n)) = refl
-nothing-left (gave (tallied n m)) = refl
-nothing-left (gave (value b)) = refl
-nothing-left (gave (around r)) = refl
-nothing-left (gave (position o)) = refl
-nothing-left (gave (Result.listing l)) = refl
-nothing-left (gave (drawn o l)) = refl
-nothing-left (gave (written n bs)) = refl
-nothing-left (gave (mended n bs m cs)) = refl
+nothing-left (gave r) = refl
 
 -- a listing that was drawn from
 drawn-left : (r : OrRefusal (Option Run)) (l l' : Listing) → Unmoved r l l'

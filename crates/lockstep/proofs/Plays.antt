@@ -1,5 +1,5 @@
 -- A whole play goes along with the plain model, move by move, from a new pool on. So what is heard and the worlds after
--- each move are told by the worlds before and the moves as the model is fed them, and two pools that hold the same worlds
+-- each move are told by the worlds before and the plans of the moves, and two pools that hold the same worlds
 -- play on alike. Assumes nothing.
 use Prim.Native.Nat.{ℕ}
 use mathlib.Core.Path.{◌≡◌, refl, sym, ap, ap₂, ◌∙◌}

@@ -8,9 +8,8 @@ use mathlib.Core.List.{List, [], ◌∷◌, ◌++◌}
 use native.Mathlib.Nat.{two-pow-succ}
 use native.Mathlib.Omega.{arith}
 use Rattle.std.proofs.lemmas.Nat.{pow_pos}
-use lib.ListN.{length, take}
+use lib.ListN.{take}
 use Rattle.model.specs.Positions.{Positions, one_if}
-use Rattle.model.specs.Bytes.{into_front}
 use Rattle.model.specs.Grid
 use Rattle.model.specs.Grid.{cell, one_valued, or_halves, by_row, survey}
 use Rattle.model.specs.Refusals.{off_plane, output_short, ◌when◌, refusal, bad_square, no_room}
@@ -21,7 +20,7 @@ use Rattle.grid.proofs.Alike.{alike-one, other-two, single-one}
 use Rattle.interval_bit_set.proofs.Planes.{square-on}
 use Rattle.interval_bit_set.specs.Met.{Met}
 use Rattle.interval_bit_set.proofs.Giving.{some-not, given-quiet, given-is}
-use Rattle.interval_bit_set.proofs.Putting.{take-front}
+use Rattle.lockstep.proofs.Writing.{front-is}
 use Rattle.lockstep.specs.Surveys.{Piece, piece, HasValue, IsOneValued, Listed, words_of, Parts}
 use Rattle.lockstep.proofs.SurveysHalving.{Halves, square-halves, half-halves}
 use Rattle.lockstep.proofs.SurveysParting.{one-part, both-parts}
@@ -117,11 +116,7 @@ module _ {w : List ℕ} {i row column k : ℕ} {out out' : List ℕ} {n : ℕ} {
 
   -- the words in front are those due of the positions held
   listed-is : take n out' ≡ due
-  listed-is =
-      let e : written n out' ≡ written (length due) (into_front due out) = given-is m in
-      let f : n ≡ length due = cc in
-      let g : out' ≡ into_front due out = cc in
-      ap₂ take f g ∙ take-front due out
+  listed-is = front-is due out (given-is m)
 
   -- of a square that is on the plane: they list its parts
   pub survey-parted : (ls : List Listed) × (take n out' ≡ words_of ls) × Parts (held_by w i) (piece row column (2 ^ k) (2 ^ k)) ls

@@ -32,6 +32,13 @@ use Rattle.lockstep.specs.Theorems.{WritesSet}
 abbrev pub bytes_of : Edition → Positions → List ℕ
 bytes_of e P = encode e (held_runs P)
 
+-- what a call told that it wrote is in front of the slice
+pub front-is : (bs out : List ℕ) {n : ℕ} {out' : List ℕ} → written n out' ≡ written (length bs) (into_front bs out) → take n out' ≡ bs
+front-is bs out {n} {out'} e =
+    let f : n ≡ length bs = cc in
+    let s : out' ≡ into_front bs out = cc in
+    ap₂ take f s ∙ take-front bs out
+
 -- ---- a world that wrote
 module _ {w : List ℕ} {i : ℕ} {e : Edition} {bs : List ℕ} (W : WritesSet w i e bs) where
   -- can be read
@@ -40,12 +47,7 @@ module _ {w : List ℕ} {i : ℕ} {e : Edition} {bs : List ℕ} (W : WritesSet w
 
   -- and what is written is the bytes of the positions held
   pub written_is : bs ≡ bytes_of e (held_by w i)
-  written_is =
-      let cs = bytes_of e (held_by w i) in
-      let f : written W.count W.slice ≡ written (length cs) (into_front cs W.out) = given-is W.met in
-      let n : W.count ≡ length cs = cc in
-      let s : W.slice ≡ into_front cs W.out = cc in
-      W.bytes ∙ ap₂ take n s ∙ take-front cs W.out
+  written_is = W.bytes ∙ front-is (bytes_of e (held_by w i)) W.out (given-is W.met)
 
 -- ---- what a call answers that writes into a slice
 -- bytes that it tells of are its slice's

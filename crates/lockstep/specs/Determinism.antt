@@ -42,8 +42,8 @@ PlayAlike w v =
     (ms ns : List (Move (Call Site))) (hs gs : List Heard) (ws vs : List (List ℕ))
     → plans ms ≡ plans ns → Plays w ms hs ws → Plays v ns gs vs → (hs ≡ gs) × (map worlds_of ws ≡ map worlds_of vs)
 
--- what holds of two plays from new pools of capacity C, with the limits ls and ks: each goes along with the model, fed
--- the moves alone; sets are the same bytes exactly where the model's positions are; and where the model's worlds agree,
+-- what holds of two plays from new pools of capacity C, with the limits ls and ks: each goes along with the model, given
+-- the plans of the moves alone; sets are the same bytes exactly where the model's positions are; and where the model's worlds agree,
 -- the two pools play on alike
 pub record Agree
     (C : ℕ) (ls ks : List Limits) (w v : List ℕ) (ms ns : List (Move (Call Site))) (hs gs : List Heard) (ws vs : List (List ℕ))
