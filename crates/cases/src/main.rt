@@ -5,7 +5,7 @@
 // Each case says its own steps with the calls as a caller has them, bounds and slices apart: so it can be read beside the document's.
 #![tactic(auto)]
 
-use interval_bit_set::{bytes, change, join, listing, make, report, write};
+use interval_bit_set::{bytes, change, join, listing, make, mend, report, write};
 use model::{Bound, Count, Edition, Listing, Operation, Refusal, Run, Tally};
 use pool::Store;
 use std::io;
@@ -166,7 +166,7 @@ fn mended<'a>(
     out: &'a mut [u8],
     report: &'a mut [u8],
 ) -> Result<(Front<'a>, Front<'a>), Refusal> {
-    let many = bytes::mend(words, 0, told, out, report)?;
+    let many = mend::mend(words, 0, told, out, report)?;
     Ok((
         Front {
             bytes: out,

@@ -6,7 +6,8 @@ use mathlib.Core.List.{append_assoc, append-nil}
 use native.Mathlib.Omega.{arith}
 use lib.ListN.{length-append}
 use Rattle.model.specs.Positions.{Positions}
-use Rattle.model.specs.Call.{Fed, PoolCall, at, Answer, refused, gave}
+use Rattle.model.specs.Call.{PoolCall, at, Answer, refused, gave}
+use Rattle.model.specs.Model.{Plan}
 use Rattle.model.specs.Pools.{PlainWorld, step, answers, after}
 use Rattle.pool.specs.Layout.{capacity, worlds_of}
 use Rattle.pool.specs.Soundness.{Sound}

@@ -21,15 +21,15 @@ use Rattle.model.proofs.Runs.{runs_in-canon, runs_in-mem, runs_in-is, runs_in-no
 use Rattle.model.specs.RunList.{Canon}
 use Rattle.model.proofs.RunList.{canon-weaken, mem-above}
 use Rattle.model.specs.Call.{Call, Result, tallied, listing, drawn, Answer, gave}
+use Rattle.model.specs.Model.{drawn_first}
 use Rattle.model.specs.Answers.{OrRefusal, answer_by, tallied_answer, listed_answer}
-use Rattle.model.specs.Model.{positions_of, report}
 use Rattle.pool.specs.Layout.{held_by}
 use Rattle.pool.specs.Settle.{Openable}
 use Rattle.reports.specs.Reports.{Measured}
 use Rattle.listset.specs.Text.{count_lines, run_lines, set_lines}
 use Rattle.interval_bit_set.specs.Lent.{item_answer, Draws}
 use Rattle.interval_bit_set.specs.Met.{Site, Met}
-use Rattle.interval_bit_set.proofs.Meeting.{refused-not, readable, Reports, tally-says, ranges-says, draw-front-says}
+use Rattle.interval_bit_set.proofs.Meeting.{refused-not, readable, Reports, asks, met}
 
 -- what follows the first run
 runs_in-rest : (P : Positions) (v : Bool) (a n : ℕ) (r : Run) (rs : List Run) → runs_in P v a n ≡ r ∷ rs
@@ -93,46 +93,45 @@ granted f (Err q) e = absurd (refused-not e)
 -- what the calls answer of a world that was opened in a sound pool: none is refused, and a draw gives the first run that is left
 module _ (w : List ℕ) {i : ℕ} (op : Openable w i) where
   answers : {c : Call Site} {A : Positions → Result} {a : Answer} → Reports w i c [] A → Met w i c a w → a ≡ gave (A (held_by w i))
-  unfolding report
-  answers {A = A} says m =
-      m.answered ∙ ap (λ o. o.answer) says.said ∙ ap (λ s. (report s [] (A (positions_of s))).answer) (readable op).fed
+  answers says m = m.answered ∙ sym (met says (readable op) refl refl).answered
 
   module _ (n : OrRefusal Tally) (m : Met w i (Call.tally Unbounded Unbounded true) (tallied_answer n) w) where
     pub tally-granted : IsOk n
-    tally-granted = granted _ n (answers (tally-says w i Unbounded Unbounded true) m)
+    tally-granted = granted _ n (answers (asks refl) m)
 
     pub tally-told : {t : Tally} → n ≡ Ok t → Measured (held_by w i) true 0 size t
     tally-told {t} e =
         let h : gave (tallied (worth t.count) t.runs) ≡ gave (tallied (count (held_by w i) true 0 size) (run_count (held_by w i) true 0 size)) =
-        ap tallied_answer (sym e) ∙ answers (tally-says w i Unbounded Unbounded true) m in
+        ap tallied_answer (sym e) ∙ answers (asks refl) m in
         let k : worth t.count ≡ count (held_by w i) true 0 size = cc in
         let r : t.runs ≡ run_count (held_by w i) true 0 size = cc in
         record { count-is = k; runs-are = r }
 
   module _ (n : OrRefusal Listing) (m : Met w i (Call.ranges Unbounded Unbounded true) (listed_answer n) w) where
     pub listing-granted : IsOk n
-    listing-granted = granted _ n (answers (ranges-says w i Unbounded Unbounded true) m)
+    listing-granted = granted _ n (answers (asks refl) m)
 
     pub listing-told : {k : Listing} → n ≡ Ok k → remaining (held_by w i) k ≡ held_runs (held_by w i)
     unfolding remaining held_runs
     listing-told {k} e =
         let h : gave (listing k) ≡ gave (listing (record { first = 0; last = size - 1; value = true })) =
-        ap listed_answer (sym e) ∙ answers (ranges-says w i Unbounded Unbounded true) m in
+        ap listed_answer (sym e) ∙ answers (asks refl) m in
         let g : k ≡ record { first = 0; last = size - 1; value = true } = cc in
         ap (remaining (held_by w i)) g
 
   module _ (n : OrRefusal (Option Run)) {l l' : Listing} (d : Draws Call.draw_front w i l n l') where
     pub draw-granted : IsOk n
-    draw-granted = granted _ n (answers (draw-front-says w i l) d.met)
+    draw-granted = granted _ n (answers (asks refl) d.met)
 
     pub draw-told : {o : Option Run} → n ≡ Ok o → MatchOption o (remaining (held_by w i) l ≡ []) (λ r. remaining (held_by w i) l ≡ r ∷ remaining (held_by w i) l')
+    unfolding drawn_first
     draw-told {o} e = go (remaining (held_by w i) l) refl
       where
         P : Positions
         P = held_by w i
 
         told : gave (drawn o l') ≡ gave (drawn (Positions.first_run (remaining P l)) (past_first l (Positions.first_run (remaining P l))))
-        told = ap (λ r. item_answer r l') (sym e) ∙ answers (draw-front-says w i l) d.met
+        told = ap (λ r. item_answer r l') (sym e) ∙ answers (asks refl) d.met
 
         go : (rs : List Run) → remaining P l ≡ rs → MatchOption o (remaining P l ≡ []) (λ r. remaining P l ≡ r ∷ remaining P l')
         go [] f =

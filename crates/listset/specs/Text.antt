@@ -6,7 +6,7 @@ use Rattle.model.specs.declared.Run.{Run}
 use Rattle.model.specs.Numbers.{size}
 use Rattle.model.specs.Positions.{Positions, count, held_runs, stretches, empty}
 use Rattle.model.specs.Call.{Call, Answer, refused, gave}
-use Rattle.model.specs.Model.{Outcome}
+use Rattle.model.specs.Model.{planned, Outcome}
 use Rattle.model.specs.Pools.{serve_at, alone}
 
 -- how many decimal digits n has, if not more than f + 1
@@ -62,7 +62,7 @@ outcome_lines (gave r) P = set_lines P
 
 -- what loading the bytes into the only world, which is empty, of a pool of capacity 950 comes to: its floor is 0 and its ceiling 950
 unfoldable pub loaded : List ℕ → Outcome
-loaded bs = serve_at 950 (alone 950 empty) 0 (Call.load bs)
+loaded bs = serve_at 950 (alone 950 empty) 0 (planned (Call.load bs))
 
 -- WHAT IS PRINTED of the bytes on standard input
 unfoldable pub printed : List ℕ → List ℕ
