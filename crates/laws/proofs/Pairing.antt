@@ -1,7 +1,7 @@
 -- Two worlds that are each shifted once, in place or into copies: both hold then what they held, shifted, also where they are worlds of one pool, or one
 -- world. So a shift passes through AND, OR and XOR, and what was not refused is not refused of the shifted sets. Assumes nothing.
 use Prim.Native.Nat.{ℕ, ◌≤◌}
-use mathlib.Core.Path.{◌≡◌, refl, sym, ap, ap₂, ◌∙◌, subst, subst₂}
+use mathlib.Core.Path.{◌≡◌, sym, ap, ap₂, ◌∙◌, subst, subst₂}
 use mathlib.Core.Logic.{◌⊎◌, inl, inr}
 use mathlib.Core.Bool.{Bool}
 use mathlib.Core.List.{List}

@@ -9,11 +9,11 @@ use Rattle.model.specs.Model.{Plan, plan, left_by, serve}
 use Rattle.model.specs.Pools.{PlainWorld, holding_at}
 use Rattle.pool.specs.Layout.{capacity_of, capacity, held_by, worlds_of}
 use Rattle.interval_bit_set.specs.Met.{Site, fed_at, full_at, outcome_of, Readable, Met}
-use Rattle.interval_bit_set.proofs.Giving.{given-readable, given-settled, given-outcome, given-is}
+use Rattle.interval_bit_set.proofs.Giving.{given-readable, given-settled, given-is}
 use Rattle.interval_bit_set.proofs.Simulation.{Holds}
 use Rattle.interval_bit_set.proofs.Simulation
 use Rattle.laws.specs.Swaps.{reporting, overwriting, kind}
-use Rattle.laws.proofs.Doing.{Gets, given-gets, full-now, gets-again, gets-as, gets_back, readable-now, held-other}
+use Rattle.laws.proofs.Doing.{given-gets, full-now, gets-again, gets-as, gets_back, readable-now, held-other}
 use Rattle.laws.proofs.Serving.{kind-stays, over-answer, over-positions}
 
 -- ---- two worlds of one pool

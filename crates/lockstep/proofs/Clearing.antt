@@ -2,21 +2,20 @@
 -- was, and a map that a world wrote stays as it is. Assumes nothing.
 use Rattle.std.specs.Prelude.{None}
 use Prim.Native.Nat.{ℕ}
-use mathlib.Core.Path.{◌≡◌, refl, sym, ap, ap₂, ◌∙◌, subst}
+use mathlib.Core.Path.{◌≡◌, refl, sym, ap, ◌∙◌, subst}
 use mathlib.Core.Bool.{Bool, true, false}
-use mathlib.Core.List.{List, [], ◌∷◌, ◌++◌}
-use native.Mathlib.Omega.{arith}
-use lib.ListN.{length, take}
-use Rattle.model.specs.Bytes.{map_of, into_front}
+use mathlib.Core.List.{List, [], ◌∷◌}
+use Rattle.model.specs.Bytes.{map_of}
 use Rattle.model.specs.Refusals.{◌when◌, window, output_short, refusal, bad_window, no_room}
-use Rattle.model.specs.Call.{Fed, wrong_length, unsound, unopened, holding, Call, number, written, Answer, gave}
-use Rattle.model.specs.Model.{Outcome, positions_of, reads, settle, report, write, serve}
+use Rattle.model.specs.Call.{Call, number, Answer, gave}
+use Rattle.model.specs.Model.{plan, Outcome, serve}
 use Rattle.model.specs.Clearing.{clear_map}
 use Rattle.model.proofs.Clearing.{clears-no-written-map, clears-twice, clears-none-twice, reads-as-document-one}
-use Rattle.interval_bit_set.specs.Met.{fed_of, full_at, outcome_of, Leaves, Met}
+use Rattle.pool.specs.Layout.{held_by}
+use Rattle.interval_bit_set.specs.Met.{fed_at, fed_of, full_at, outcome_of, Leaves, Met}
 use Rattle.interval_bit_set.specs.Handles.{Handles}
-use Rattle.interval_bit_set.proofs.Served.{unrefused}
-use Rattle.interval_bit_set.proofs.Putting.{take-front}
+use Rattle.interval_bit_set.proofs.Giving.{some-not, given-quiet, given-is}
+use Rattle.lockstep.proofs.Writing.{front-is}
 use Rattle.lockstep.specs.Clearing.{old_reading, WritesMap}
 
 module _ (base n : ℕ) (bs : List ℕ) where
@@ -24,7 +23,7 @@ module _ (base n : ℕ) (bs : List ℕ) where
   cleared-outcome : {bs' : List ℕ} {c : Answer} (w : List ℕ) (i : ℕ) → Handles (clear_map base n bs) c bs' → outcome_of w i (Call.read_map base n bs') ≡ old_reading w i base n bs
   unfolding outcome_of
   cleared-outcome w i h =
-      ap (λ (cs : List ℕ). serve (full_at w i) (fed_of w i) (Call.read_map base n cs)) h.left ∙ sym (reads-as-document-one base n bs (full_at w i) (fed_of w i))
+      ap (λ (cs : List ℕ). serve (full_at w i) (fed_of w i) (plan fed_at (Call.read_map base n cs))) h.left ∙ sym (reads-as-document-one base n bs (full_at w i) (fed_of w i))
 
   -- if clear_map was called on bs and left bs', then what read_map of bs' answers and leaves is document 01's reading of bs
   pub clear-then-read :
@@ -47,37 +46,19 @@ module _ (base n : ℕ) (bs : List ℕ) where
       )
 
 -- no window is written or reported that is none
-pub window-good : (s : Fed) (t b : Bool) → refusal (reads s ++ output_short when t ∷ window when b ∷ []) ≡ None → b ≡ false
-window-good s t false e = refl
-window-good wrong_length t true e = let z : ◌≡◌ {A = ℕ} 0 1 = cc in absurd (omega arith)
-window-good unsound t true e = let z : ◌≡◌ {A = ℕ} 0 1 = cc in absurd (omega arith)
-window-good unopened t true e = let z : ◌≡◌ {A = ℕ} 0 1 = cc in absurd (omega arith)
-window-good (holding P) t true e = let z : ◌≡◌ {A = ℕ} 0 1 = cc in absurd (omega arith)
+pub window-good : (t b : Bool) → refusal (output_short when t ∷ window when b ∷ []) ≡ None → b ≡ false
+window-good t false e = refl
+window-good t true e = absurd (some-not e)
 
 -- what was written is the map of the positions held, of a window
 pub record Mapped (w : List ℕ) (i base n : ℕ) (bs : List ℕ) : Type 0 where
   pub good : bad_window base n ≡ false
-  pub is : bs ≡ map_of (positions_of (fed_of w i)) base n
-
-map-by : (w : List ℕ) (i base n : ℕ) (out : List ℕ) → let s = fed_of w i in let bs = map_of (positions_of s) base n in
-    outcome_of w i (Call.write_map base n out)
-    ≡ settle (refusal (reads s ++ output_short when no_room out bs ∷ window when bad_window base n ∷ [])) (positions_of s) (written (length bs) (into_front bs out)) (positions_of s)
-unfolding outcome_of serve write report
-map-by w i base n out = refl
+  pub is : bs ≡ map_of (held_by w i) base n
 
 written-map : {w : List ℕ} {i base n : ℕ} {bs : List ℕ} → WritesMap w i base n bs → Mapped w i base n bs
-written-map {w} {i} {base} {n} {bs} W =
-    let s = fed_of w i in
-    let P = positions_of s in
-    let ms = map_of P base n in
-    let y = refusal (reads s ++ output_short when no_room W.out ms ∷ window when bad_window base n ∷ []) in
-    let r = written (length ms) (into_front ms W.out) in
-    let e = W.met.answered ∙ ap (λ o. o.answer) (map-by w i base n W.out) in
-    let u = unrefused y P r (written W.count W.slice) P e in
-    let f : gave (written W.count W.slice) ≡ gave r = e ∙ ap (λ z. (settle z P r P).answer) u in
-    let k : W.count ≡ length ms = cc in
-    let l : W.slice ≡ into_front ms W.out = cc in
-    record { good = window-good s (no_room W.out ms) (bad_window base n) u; is = W.bytes ∙ ap₂ take k l ∙ take-front ms W.out }
+written-map {w} {i} {base} {n} W =
+    let ms = map_of (held_by w i) base n in
+    record { good = window-good (no_room W.out ms) (bad_window base n) (given-quiet W.met); is = W.bytes ∙ front-is ms W.out (given-is W.met) }
 
 -- clear_map leaves a map that write_map wrote, and answers 0
 pub written-stays :
@@ -85,5 +66,5 @@ pub written-stays :
     → WritesMap w i base n bs → Handles (clear_map base n bs) a bs' → (a ≡ gave (number 0)) × (bs' ≡ bs)
 written-stays {w} {i} {base} {n} {bs} W h =
     let M = written-map W in
-    let e = ap (clear_map base n) M.is ∙ clears-no-written-map (positions_of (fed_of w i)) base n M.good in
+    let e = ap (clear_map base n) M.is ∙ clears-no-written-map (held_by w i) base n M.good in
     (h.answered ∙ ap (λ o. o.answer) e, h.left ∙ ap (λ o. o.slice) e ∙ sym M.is)

@@ -11,7 +11,7 @@ use Rattle.model.specs.Positions.{held_runs}
 use Rattle.model.specs.Bytes.{encode, edition_of, decode}
 use Rattle.model.specs.RunList.{AllBytes}
 use Rattle.model.specs.Call.{Call, written, Answer, gave}
-use Rattle.model.specs.Model.{Outcome, serve}
+use Rattle.model.specs.Model.{plan, Outcome, serve}
 use Rattle.model.specs.Converting.{other_edition, converted, convert, document_one_refusal}
 use Rattle.model.proofs.Codec.{Intact}
 use Rattle.model.proofs.Converting.{
@@ -26,7 +26,7 @@ use Rattle.model.proofs.Converting.{
   columns-refused,
 }
 use Rattle.pool.specs.Layout.{held_by, worlds_of}
-use Rattle.interval_bit_set.specs.Met.{fed_of, full_at, outcome_of, Leaves, Met}
+use Rattle.interval_bit_set.specs.Met.{fed_at, fed_of, full_at, outcome_of, Leaves, Met}
 use Rattle.interval_bit_set.specs.Handles.{Handles}
 use Rattle.interval_bit_set.proofs.Putting.{take-front}
 use Rattle.lockstep.specs.Determinism.{Loads}
@@ -77,7 +77,7 @@ module _ (bs out : List ℕ) {cs : List ℕ} {n : ℕ} (h : Handles (convert bs 
   converted-outcome : AllBytes bs → (w : List ℕ) (i : ℕ) → outcome_of w i (Call.load (take n cs)) ≡ outcome_of w i (Call.load bs)
   unfolding outcome_of
   converted-outcome b w i =
-      ap (λ es. serve (full_at w i) (fed_of w i) (Call.load es)) front-is ∙ converted-serve (full_at w i) (fed_of w i) bs b was-intact
+      ap (λ es. serve (full_at w i) (fed_of w i) (plan fed_at (Call.load es))) front-is ∙ converted-serve (full_at w i) (fed_of w i) bs b was-intact
 
   -- so both answer alike, and leave the same worlds
   pub convert-then-load : {w w' v' : List ℕ} {i : ℕ} {a a₂ : Answer} → AllBytes bs → Met w i (Call.load bs) a w' → Met w i (Call.load (take n cs)) a₂ v'

@@ -22,7 +22,7 @@ use Rattle.pool.proofs.WorldLists.{opened-world, unopened-world}
 use Rattle.interval_bit_set.specs.Met.{Site}
 use Rattle.interval_bit_set.proofs.Putting.{take-front}
 use Rattle.interval_bit_set.proofs.Simulation.{Holds}
-use Rattle.lockstep.specs.Plays.{nothing, single, Move, fed, heard_as, met, rest, move, left, worlds_after}
+use Rattle.lockstep.specs.Plays.{nothing, single, Move, plans, heard_as, met, rest, move, left, worlds_after}
 use Rattle.lockstep.specs.Determinism.{WriteAlike, Loads, MayWrite, Writes, Writable, Determinism}
 use Rattle.lockstep.specs.Theorems.{WritesSet}
 use Rattle.lockstep.proofs.Writing.{bytes_of, written-met, fills, as-set, writer-readable, written_is, written-alike}
@@ -77,7 +77,7 @@ write-alike {C} {w = w} {v = v} H K e i j x y out due out' due' r s a b room roo
 
 -- what one play writes, every play of its moves does
 writes-every :
-    {C : ℕ} {limits : List Limits} {moves : List (Move Site)} {world : ℕ} {e : Edition} {bs : List ℕ}
+    {C : ℕ} {limits : List Limits} {moves : List (Move (Call Site))} {world : ℕ} {e : Edition} {bs : List ℕ}
     → MayWrite C limits moves world e bs → Writes C limits moves world e bs
 writes-every {C} {limits} {moves} {world = i} {e} {bs} M first heard states out out' r N p room W =
     let w : List ℕ = left M.first M.states in
@@ -85,7 +85,7 @@ writes-every {C} {limits} {moves} {world = i} {e} {bs} M first heard states out 
     let S : WritesSet w i e bs = subst (WritesSet w i e) (sym M.bytes) (as-set M.writes refl) in
     let H = left-after (new-holds M.new) M.plays in
     let K = left-after (new-holds N) p in
-    let here : world_of (worlds_after C (empty_worlds limits) (fed moves)) i ≡ Some (plain_at w i) =
+    let here : world_of (worlds_after C (empty_worlds limits) (plans moves)) i ≡ Some (plain_at w i) =
     ap (λ us. world_of us i) (sym H.held) ∙ opened-world w i (writer-readable S).openable.named in
     let f = found K here in
     let same : bytes_of e (held_by v i) ≡ bs = ap (bytes_of e) (sym f.holds) ∙ sym (written_is S) in
@@ -125,7 +125,7 @@ loads-written {C} {bs} b L =
 
 -- and those that some play writes load
 written-loads :
-    {C : ℕ} {limits : List Limits} {moves : List (Move Site)} {world : ℕ} {e : Edition} {bs : List ℕ}
+    {C : ℕ} {limits : List Limits} {moves : List (Move (Call Site))} {world : ℕ} {e : Edition} {bs : List ℕ}
     → MayWrite C limits moves world e bs → Loads C bs
 written-loads {C} {world = i} {e = e} M =
     let w : List ℕ = left M.first M.states in

@@ -1,25 +1,20 @@
 -- Fill, over what the public calls promise (document 02, Ticket 7): 0 exactly where nothing of the window is held, and 1000 where all of it is.
 -- What is added before the division is less than the length, so it makes one more of a rest, and of no rest nothing. Assumes nothing.
-use Rattle.std.specs.Prelude.{None, Ok}
 use Prim.Native.Nat.{ℕ, ◌+◌, ◌-◌, ◌*◌, ◌/◌, ◌≤◌, ◌<◌}
-use mathlib.Core.Path.{◌≡◌, refl, sym, ap, ◌∙◌}
+use mathlib.Core.Path.{◌≡◌, sym, ap, ◌∙◌}
 use mathlib.Core.Bool.{true, false}
-use mathlib.Core.List.{List, [], ◌∷◌, ◌++◌}
+use mathlib.Core.List.{List}
 use native.Mathlib.Nat.{add_comm, div-eq_of_lt, add-mul-div_right, div-lt_iff_lt-mul}
 use native.Mathlib.Omega.{arith}
 use Rattle.model.specs.Positions.{Positions, count}
 use Rattle.model.specs.Bytes.{fill_of}
-use Rattle.model.specs.Refusals.{Condition, ◌when◌, window, refusal, bad_window}
-use Rattle.model.specs.Call.{holding, Call, number, gave}
-use Rattle.model.specs.Model.{positions_of, reads, settle, report}
+use Rattle.model.specs.Refusals.{bad_window}
+use Rattle.model.specs.Call.{Call, number, gave}
 use Rattle.model.proofs.Counting.{count-all, count_none, counted_none}
 use Rattle.pool.specs.Layout.{held_by}
-use Rattle.interval_bit_set.specs.Met.{fed_of, Readable, Met}
-use Rattle.interval_bit_set.proofs.Meeting.{fill-says}
-use Rattle.interval_bit_set.proofs.Served.{unrefused}
+use Rattle.interval_bit_set.specs.Met.{Met}
+use Rattle.interval_bit_set.proofs.Giving.{given-quiet, given-is}
 use Rattle.interval_bit_set.proofs.Windows.{fitting}
-use Rattle.interval_bit_set.proofs.Looking.{looked-sound}
-use Rattle.lockstep.proofs.Writing.{unearned}
 use Rattle.lockstep.proofs.Clearing.{window-good}
 
 -- ---- the number
@@ -45,35 +40,13 @@ module _ (P : Positions) (base n : ℕ) (Some : 1 ≤ n) where
 
 -- ---- a fill that is not refused
 module _ {w : List ℕ} {i base n k : ℕ} {w' : List ℕ} (m : Met w i (Call.fill base n) (gave (number k)) w') where
-  abbrev asked : List Condition
-  asked = window when bad_window base n ∷ []
-
-  abbrev P : Positions
-  P = positions_of (fed_of w i)
-
-  -- what the model gives, by the refusals
-  said : gave (number k) ≡ (settle (refusal (reads (fed_of w i) ++ asked)) P (number (fill_of P base n)) P).answer
-  unfolding report
-  said = m.answered ∙ ap (λ o. o.answer) (fill-says w i base n).said
-
-  -- there is none
-  passed : refusal (reads (fed_of w i) ++ asked) ≡ None
-  passed = unrefused (refusal (reads (fed_of w i) ++ asked)) P (number (fill_of P base n)) (number k) P said
-
-  -- so the world can be read
-  filler-readable : Readable w i
-  filler-readable = looked-sound {T = Unit {0}} (Ok tt) (sym (unearned (fed_of w i) asked passed)) refl
-
-  -- the window has a position
+  -- of a window that has a position
   some-asked : 1 ≤ n
-  some-asked = (fitting base n (window-good (holding (held_by w i)) false (bad_window base n) (sym (ap (λ s. refusal (reads s ++ asked)) filler-readable.fed) ∙ passed))).some
+  some-asked = (fitting base n (window-good false (bad_window base n) (given-quiet m))).some
 
-  -- and the number is the fill of the positions held
+  -- the number is the fill of the positions held
   told_is : k ≡ fill_of (held_by w i) base n
-  told_is =
-      let e : gave (number k) ≡ gave (number (fill_of P base n)) = said ∙ ap (λ y. (settle y P (number (fill_of P base n)) P).answer) passed in
-      let f : k ≡ fill_of P base n = cc in
-      f ∙ ap (λ s. fill_of (positions_of s) base n) filler-readable.fed
+  told_is = let e : number k ≡ number (fill_of (held_by w i) base n) = given-is m in cc
 
   -- it is 0 exactly where nothing of the window is held
   pub none-held : (k ≡ 0 → (x : ℕ) → base ≤ x → x < base + n → held_by w i x ≡ false) × (((x : ℕ) → base ≤ x → x < base + n → held_by w i x ≡ false) → k ≡ 0)

@@ -3,42 +3,16 @@
 use Rattle.std.specs.Prelude.{Option, None, Some}
 use Prim.Native.Nat.{ℕ, ◌+◌, ◌≤◌, ◌<◌, max}
 use mathlib.Core.Path.{◌≡◌, refl, sym, ap, ◌∙◌, subst}
-use mathlib.Core.Bool.{Bool, true, false, cond, true≢false}
+use mathlib.Core.Bool.{Bool, true, false, cond, ◌||◌, true≢false}
 use mathlib.Core.List.{List, [], ◌∷◌, ◌++◌}
 use native.Mathlib.Omega.{arith}
 use borrow.Author.Tests.{le-ltb}
 use Rattle.model.specs.Positions.{Positions, bounded, stretches}
 use Rattle.model.proofs.Runs.{stretches-cong}
-use Rattle.model.specs.Refusals.{
-  Cause,
-  store_length,
-  world_limits,
-  store_unsound,
-  world_unopened,
-  tree_height,
-  gap_length,
-  range_reversed,
-  off_plane,
-  not_refused,
-  window,
-  stray_bit,
-  set_short,
-  set_version,
-  set_length,
-  run_order,
-  output_short,
-  number_of,
-  order,
-  Condition,
-  ◌when◌,
-  given,
-  first_given,
-  refusal,
-  too_many,
-}
+use Rattle.model.specs.Refusals.{Cause, number_of, order, earns_length, earns_unsound, earns_unopened, Condition, given, first_given, refusal, too_many}
 use Rattle.model.specs.Refusals
-use Rattle.model.specs.Call.{Fed, Call, feed, Result, Answer, refused, gave}
-use Rattle.model.specs.Model.{positions_of, reads, settle, report, change, write, mending, changed, setting, flipping, tallying, drawn_first, drawn_last, serve}
+use Rattle.model.specs.Call.{Fed, Call, Result, Answer, refused, gave}
+use Rattle.model.specs.Model.{Effect, Plan, plan, positions_of, any_earns, look, or_else, first_refusal, room, left_by, settle, serve}
 use Rattle.model.specs.Mending.{mended_positions}
 use Rattle.model.specs.Pools.{full, exceeds, other_claims}
 use Rattle.model.proofs.Pools.{claims-split}
@@ -47,7 +21,7 @@ use Rattle.pool.specs.Soundness.{Sound}
 use Rattle.pool.proofs.WorldLists.{opened-world}
 use Rattle.interval_bit_set.specs.Met.{Site, fed_at, fed_of, full_at, outcome_of, Met}
 use Rattle.interval_bit_set.proofs.Changing.{bounded-is}
-use Rattle.interval_bit_set.proofs.Served.{unrefused}
+use Rattle.interval_bit_set.proofs.Giving.{unrefused}
 
 -- ---- the number 8
 -- a number that is given is that of a cause that is given
@@ -62,119 +36,59 @@ given-number (k ∷ ks) cs {n} e = go (given k cs) refl (given-number ks cs) e
 
 -- 8 is the number of one cause
 eight_is : (k : Cause) → number_of k ≡ 8 → k ≡ Refusals.capacity
-eight_is store_length e = absurd (omega arith)
-eight_is world_limits e = absurd (omega arith)
-eight_is store_unsound e = absurd (omega arith)
-eight_is world_unopened e = absurd (omega arith)
-eight_is tree_height e = absurd (omega arith)
-eight_is gap_length e = absurd (omega arith)
-eight_is range_reversed e = absurd (omega arith)
-eight_is off_plane e = absurd (omega arith)
-eight_is not_refused e = absurd (omega arith)
-eight_is window e = absurd (omega arith)
-eight_is stray_bit e = absurd (omega arith)
-eight_is set_short e = absurd (omega arith)
-eight_is set_version e = absurd (omega arith)
-eight_is set_length e = absurd (omega arith)
-eight_is run_order e = absurd (omega arith)
 eight_is Refusals.capacity e = refl
-eight_is output_short e = absurd (omega arith)
+eight_is k e = absurd (omega arith)
 
 -- so it is given where that cause is
 eight-given : (ks : List Cause) (cs : List Condition) → first_given ks cs ≡ Some 8 → given Refusals.capacity cs ≡ true
 eight-given ks cs e = let g = given-number ks cs e in subst (λ k. given k cs ≡ true) (eight_is g.0 g.1) g.2
 
--- ---- the calls
-module _ (full : ℕ → Bool) (s : Fed) where
-  -- that many runs were too many, of what the call would leave if no number were, where it would be done then
-  abbrev TooMany : Call Fed → Type 0
-  TooMany c =
-      (serve full s c).answer ≡ refused 8 → (r : Result) → (serve (λ r. false) s c).answer ≡ gave r
-      → full (stretches (serve (λ r. false) s c).positions) ≡ true
+-- what worlds earn is not 8
+late : (ss : List Fed) (o : Option ℕ) → or_else (look ss) o ≡ Some 8 → o ≡ Some 8
+late ss o e = go (any_earns earns_length ss) (any_earns earns_unsound ss) (any_earns earns_unopened ss) e
+  where
+    go : (x y z : Bool) → or_else (cond {A = Option ℕ} x (Some 1) (cond {A = Option ℕ} y (Some 7) (cond {A = Option ℕ} z (Some 12) None))) o ≡ Some 8 → o ≡ Some 8
+    go true y z e = let q : ◌≡◌ {A = ℕ} 1 8 = cc in absurd (omega arith)
+    go false true z e = let q : ◌≡◌ {A = ℕ} 7 8 = cc in absurd (omega arith)
+    go false false true e = let q : ◌≡◌ {A = ℕ} 12 8 = cc in absurd (omega arith)
+    go false false false e = e
 
-  -- no call that reports is refused with 8
-  reports-not : (cs : List Condition) (a : Result) → given Refusals.capacity cs ≡ false → (report s cs a).answer ≡ refused 8 → ⊥
-  unfolding report
-  reports-not cs a quiet e = go (refusal (reads s ++ cs)) refl e
+-- nor is it a condition of any call beside too many runs
+no-eight : (c : Call Site) (P : Positions) → given Refusals.capacity ((plan fed_at c).earns P) ≡ false
+no-eight (Call.get x) P = refl
+no-eight c P = refl
+
+-- an answer that is a refusal
+settled-refused : (o : Option ℕ) (P : Positions) (a : Result) (Q : Positions) {n : ℕ} → (settle o P a Q).answer ≡ refused n → o ≡ Some n
+settled-refused None P a Q e = let z : ◌≡◌ {A = ℕ} 0 1 = cc in absurd (omega arith)
+settled-refused (Some n) P a Q e = cc
+
+-- ---- 8 is given where the runs of what the call would leave are too many, if nothing else gives 8
+module _ (full : ℕ → Bool) (s : Fed) (p : Plan) where
+  abbrev P : Positions
+  P = positions_of s
+
+  too-full : given Refusals.capacity (p.earns P) ≡ false → (serve full s p).answer ≡ refused 8 → full (stretches (left_by p.effect P)) ≡ true
+  unfolding serve too_many
+  too-full bare e =
+      go p.effect
+      (eight-given order (room full p.effect P ++ p.earns P)
+      (late (s ∷ p.further) (refusal (room full p.effect P ++ p.earns P))
+      (settled-refused (first_refusal (s ∷ p.further) (room full p.effect P ++ p.earns P)) P (p.gives P) (left_by p.effect P) e)))
     where
-      go : (o : Option ℕ) → refusal (reads s ++ cs) ≡ o → (settle o (positions_of s) a (positions_of s)).answer ≡ refused 8 → ⊥
-      go None f p = let z : ◌≡◌ {A = ℕ} 0 1 = cc in omega arith
-      go (Some n) f p =
-          let q : n ≡ 8 = cc in
-          true≢false (sym (eight-given order (reads s ++ cs) (f ∙ ap Some q)) ∙ quiet)
+      runs : (Q : Positions) (t : Bool) → full (stretches Q) ≡ t → (t || given Refusals.capacity (p.earns P)) ≡ true → full (stretches (bounded Q)) ≡ true
+      runs Q true f g = ap full (stretches-cong (bounded Q) Q (λ x h. sym (bounded-is Q x h))) ∙ f
+      runs Q false f g = absurd (true≢false (sym g ∙ bare))
 
-  -- one that changes is where the runs of what it changes to are too many
-  module _ (cs : List Condition) (Q : Positions) (a : Result) where
-    -- the refusal, by whether they are
-    due : Bool → Option ℕ
-    due t = refusal (reads s ++ Refusals.capacity when t ∷ cs)
+      go : (e : Effect) → given Refusals.capacity (room full e P ++ p.earns P) ≡ true → full (stretches (left_by e P)) ≡ true
+      go Effect.stays g = absurd (true≢false (sym g ∙ bare))
+      go (Effect.becomes Q) g = runs (Q P) _ refl g
+      go (Effect.overwritten Q) g = runs Q _ refl g
 
-    -- which is 8
-    eight-due : (change full s cs Q a).answer ≡ refused 8 → due (full (stretches Q)) ≡ Some 8
-    unfolding change too_many due
-    eight-due e = go (refusal (reads s ++ Refusals.capacity when full (stretches Q) ∷ cs)) e
-      where
-        go : (o : Option ℕ) → (settle o (positions_of s) a (bounded Q)).answer ≡ refused 8 → o ≡ Some 8
-        go None p = let z : ◌≡◌ {A = ℕ} 0 1 = cc in absurd (omega arith)
-        go (Some n) p = let q : n ≡ 8 = cc in ap Some q
-
-    -- it is refused with 8 only where they are, if nothing else gives 8
-    pub alters-over : given Refusals.capacity cs ≡ false → (change full s cs Q a).answer ≡ refused 8 → full (stretches Q) ≡ true
-    unfolding change too_many due
-    alters-over quiet e = go (full (stretches Q)) refl
-      where
-        go : (t : Bool) → full (stretches Q) ≡ t → full (stretches Q) ≡ true
-        go true f = f
-        go false f = absurd (true≢false (sym (eight-given order (reads s ++ Refusals.capacity when false ∷ cs) (sym (ap due f) ∙ eight-due e)) ∙ quiet))
-
-    pub alters-many : (change full s cs Q a).answer ≡ refused 8 → (r : Result) → (change (λ r. false) s cs Q a).answer ≡ gave r
-        → full (stretches (change (λ r. false) s cs Q a).positions) ≡ true
-    unfolding change too_many due
-    alters-many e r d = go (full (stretches Q)) refl
-      where
-        free : due false ≡ None
-        free = unrefused (due false) (positions_of s) a r (bounded Q) (sym d)
-
-        go : (t : Bool) → full (stretches Q) ≡ t → full (stretches (settle (due false) (positions_of s) a (bounded Q)).positions) ≡ true
-        go true f =
-            ap (λ o. full (stretches (settle o (positions_of s) a (bounded Q)).positions)) free
-            ∙ ap full (stretches-cong (bounded Q) Q (λ x h. sym (bounded-is Q x h))) ∙ f
-        go false f =
-            let g : ◌≡◌ {A = Option ℕ} None (Some 8) = sym free ∙ sym (ap due f) ∙ eight-due e in
-            let z : ◌≡◌ {A = ℕ} 0 1 = cc in absurd (omega arith)
-
-  -- every call is one of these
-  many : (c : Call Fed) → TooMany c
-  unfolding serve changed setting flipping tallying write mending drawn_first drawn_last
-  many (Call.set l u v) = alters-many _ _ _
-  many (Call.flip l u) = alters-many _ _ _
-  many (Call.get x) = λ e. absurd (reports-not _ _ refl e)
-  many (Call.run_at x) = λ e. absurd (reports-not _ _ refl e)
-  many (Call.find l u v) = λ e. absurd (reports-not _ _ refl e)
-  many (Call.tally l u v) = λ e. absurd (reports-not _ _ refl e)
-  many (Call.select l u v k) = λ e. absurd (reports-not _ _ refl e)
-  many (Call.gap l u n) = λ e. absurd (reports-not _ _ refl e)
-  many (Call.ranges l u v) = λ e. absurd (reports-not _ _ refl e)
-  many (Call.draw_front l) = λ e. absurd (reports-not _ _ refl e)
-  many (Call.draw_back l) = λ e. absurd (reports-not _ _ refl e)
-  many (Call.shift d left) = alters-many _ _ _
-  many (Call.shifted d left t) = alters-many _ _ _
-  many (Call.combine op t u) = alters-many _ _ _
-  many (Call.complement t) = alters-many _ _ _
-  many (Call.equal t) = λ e. absurd (reports-not _ _ refl e)
-  many (Call.load bs) = alters-many _ _ _
-  many (Call.mend bs out report) = alters-many _ _ _
-  many (Call.build rs) = alters-many _ _ _
-  many (Call.write_set e out) = λ f. absurd (reports-not _ _ refl f)
-  many (Call.read_map base n bs) = alters-many _ _ _
-  many (Call.write_map base n out) = λ e. absurd (reports-not _ _ refl e)
-  many (Call.fill base n) = λ e. absurd (reports-not _ _ refl e)
-  many (Call.set_strict l u v) = alters-many _ _ _
-  many (Call.flip_strict l u) = alters-many _ _ _
-  many (Call.tally_strict l u v) = λ e. absurd (reports-not _ _ refl e)
-  many (Call.set_rect q v) = alters-many _ _ _
-  many (Call.count_rect q) = λ e. absurd (reports-not _ _ refl e)
-  many (Call.survey r c k out) = λ e. absurd (reports-not _ _ refl e)
+  -- and that is what it leaves where it is done
+  done-leaves : {r : Result} → (serve full s p).answer ≡ gave r → (serve full s p).positions ≡ left_by p.effect P
+  unfolding serve
+  done-leaves e = ap (λ o. (settle o P (p.gives P) (left_by p.effect P)).positions) (unrefused _ _ _ _ e)
 
 -- ---- a sound pool
 module _ {w : List ℕ} (S : Sound w) (i : ℕ) (l : i < opened_at w) where
@@ -190,16 +104,20 @@ module _ {w : List ℕ} (S : Sound w) (i : ℕ) (l : i < opened_at w) where
         le-ltb (capacity w) (max r x.floor + o) (omega (arith, h, claims-split (worlds_of w) i x (opened-world w i l), S.fits)),
       )
 
-  -- so no call that would be done and leave at most so many is refused with 8
-  pub reaches-floor : {c : Call Site} {a : Answer} {w' : List ℕ} {r : Result} → Met w i c a w' → (serve (λ r. false) (fed_of w i) (feed fed_at c)).answer ≡ gave r
-      → stretches (serve (λ r. false) (fed_of w i) (feed fed_at c)).positions ≤ floor_at w i → a ≡ refused 8 → ⊥
+  -- so no call that would leave at most so many is refused with 8
+  reaches : {c : Call Site} {a : Answer} {w' : List ℕ} → Met w i c a w' → stretches (left_by (plan fed_at c).effect (positions_of (fed_of w i))) ≤ floor_at w i → a ≡ refused 8 → ⊥
   unfolding outcome_of
-  reaches-floor {c} m d h e =
-      true≢false (sym (many (full_at w i) (fed_of w i) (feed fed_at c) (sym m.answered ∙ e) _ d) ∙ floor-fits _ h)
+  reaches {c} m h e =
+      true≢false
+      (sym (too-full (full_at w i) (fed_of w i) (plan fed_at c) (no-eight c (positions_of (fed_of w i))) (sym m.answered ∙ e)) ∙ floor-fits _ h)
 
-  -- nor is a mend whose outcome has at most so many, whatever slices are lent
+  -- nor one that would be done then
+  pub reaches-floor : {c : Call Site} {a : Answer} {w' : List ℕ} {r : Result} → Met w i c a w' → (serve (λ r. false) (fed_of w i) (plan fed_at c)).answer ≡ gave r
+      → stretches (serve (λ r. false) (fed_of w i) (plan fed_at c)).positions ≤ floor_at w i → a ≡ refused 8 → ⊥
+  reaches-floor {c} m d h = reaches m (subst (λ Q. stretches Q ≤ floor_at w i) (done-leaves (λ r. false) (fed_of w i) (plan fed_at c) d) h)
+
+  -- nor a mend whose outcome has at most so many, whatever slices are lent
   pub mend-reaches-floor : {bs out report : List ℕ} {a : Answer} {w' : List ℕ} → Met w i (Call.mend bs out report) a w' → stretches (mended_positions bs) ≤ floor_at w i
       → a ≡ refused 8 → ⊥
-  unfolding outcome_of serve mending
-  mend-reaches-floor {bs} m h e =
-      true≢false (sym (alters-over (full_at w i) (fed_of w i) _ (mended_positions bs) _ refl (sym m.answered ∙ e)) ∙ floor-fits _ h)
+  mend-reaches-floor {bs} m h =
+      reaches m (omega (arith, h, stretches-cong (bounded (mended_positions bs)) (mended_positions bs) (λ x l. sym (bounded-is (mended_positions bs) x l))))

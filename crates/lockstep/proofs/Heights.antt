@@ -9,12 +9,9 @@ use mathlib.Core.List.{List, [], ◌∷◌, ◌++◌, append-nil}
 use native.Mathlib.Omega.{arith}
 use lib.ListN.{length}
 use Rattle.std.specs.declared.ops.Bound.TheVariants.{Included}
-use Rattle.model.specs.Call.{Fed, holding, Call, Result, number, Answer, gave}
+use Rattle.model.specs.Call.{Call, number, Answer, gave}
 use Rattle.model.specs.Deepest.{least, deepest_runs}
-use Rattle.model.specs.Model.{Outcome, positions_of, settle, change}
 use Rattle.model.specs.Numbers.{size}
-use Rattle.model.specs.Refusals
-use Rattle.model.specs.Refusals.{◌when◌, refusal}
 use Rattle.model.specs.Positions.{Positions, bounded, empty, set_range, stretches}
 use Rattle.model.specs.RunList.{TouchesNone}
 use Rattle.model.specs.declared.Run.{Run}
@@ -37,12 +34,12 @@ use Rattle.pool.proofs.Worlds.{world-standing}
 use Rattle.changes.proofs.Lists.{append-one}
 use Rattle.changes.proofs.SetRuns.{set-one-more}
 use Rattle.interval_bit_set.specs.Grown.{shape, Unturned, Clear}
-use Rattle.interval_bit_set.specs.Met.{Site, outcome_of, full_at, Met, Readable}
+use Rattle.interval_bit_set.specs.Met.{Met, Readable}
 use Rattle.interval_bit_set.proofs.Allowing.{allowance-after}
-use Rattle.interval_bit_set.proofs.Changing.{Changes, fits-few, set_says, bounded-is}
+use Rattle.interval_bit_set.proofs.Changing.{bounded-is}
 use Rattle.interval_bit_set.proofs.Meeting.{readable}
-use Rattle.interval_bit_set.proofs.Served.{bounded-ends, unrefused}
-use Rattle.interval_bit_set.proofs.Simulation.{worlds-after}
+use Rattle.interval_bit_set.proofs.Giving.{fits-quiet, given-where, given-settled}
+use Rattle.interval_bit_set.proofs.Simulation.{bounded-ends, worlds-after}
 use Rattle.interval_bit_set.proofs.Shapes.{shape-height, shape-inorder, shape-inserted}
 use Rattle.lockstep.specs.Heights.{SetRun, SetOneByOne}
 
@@ -117,31 +114,6 @@ module _ (P : Positions) (a n : ℕ) (v : Bool) where
       go (inl some) = omega (arith, stretches-cong (set_range a n v P) (set_range a m v P) within-size, set-one-more P a m v some (omega arith))
       go (inr none) = omega (arith, stretches-cong (set_range a n v P) P (none-set (omega arith)))
 
--- ---- a change, with no condition but room
-module _ {w : List ℕ} {i : ℕ} {c : Call Site} {F : Positions → Positions} {A : Positions → Result} (says : Changes w i c [] F A)
-    (R : Readable w i) where
-  abbrev changed : Fed → Outcome
-  changed s = change (full_at w i) s [] (F (positions_of s)) (A (positions_of s))
-
-  changed-is : outcome_of w i c ≡ changed (holding (held_by w i))
-  changed-is = says.said ∙ ap changed R.fed
-
-  -- that was not refused leaves the changed positions
-  done-positions : {b : Result} → gave b ≡ (outcome_of w i c).answer → (outcome_of w i c).positions ≡ bounded (F (held_by w i))
-  unfolding change
-  done-positions e =
-      let P = held_by w i in
-      ap (λ o. o.positions) changed-is
-      ∙ ap (λ y. (settle y P (A P) (bounded (F P))).positions) (unrefused _ P _ _ (bounded (F P)) (e ∙ ap (λ o. o.answer) changed-is))
-
-  -- and is not refused where these have few enough runs
-  room-given : {a : Answer} {v : List ℕ} → stretches (F (held_by w i)) ≤ allowance w i → Met w i c a v → a ≡ gave (A (held_by w i))
-  unfolding change
-  room-given few m =
-      let P = held_by w i in
-      m.answered ∙ ap (λ o. o.answer) changed-is
-      ∙ ap (λ t. (settle (refusal (Refusals.capacity when t ∷ [])) P (A P) (bounded (F P))).answer) (fits-few R.openable (F P) few)
-
 -- ---- a set of a run
 module _ {w : List ℕ} {i : ℕ} (r : Run) (S : Sound w) (l : i < opened_at w) where
   abbrev there : Readable w i
@@ -157,13 +129,12 @@ module _ {w : List ℕ} {i : ℕ} (r : Run) (S : Sound w) (l : i < opened_at w) 
   -- so it is given where the world may have one more
   set-given : {a : Answer} {v : List ℕ} → stretches (held_by w i) + 1 ≤ allowance w i
       → Met w i (Call.set (Included r.start) (Included r.«end») true) a v → (n : ℕ) × (a ≡ gave (number n))
-  set-given few m = (_, room-given (set_says w i (Included r.start) (Included r.«end») true) there (omega (arith, set-more, few)) m)
+  set-given few m = (_, given-where there refl (fits-quiet there.openable Q [] (omega (arith, set-more, few)) refl) m)
 
   -- what it leaves where it was
   module _ {v : List ℕ} (one : SetRun w i r v) where
     set-settled : Settled w v i (bounded Q)
-    set-settled =
-        subst (Settled w v i) (done-positions (set_says w i (Included r.start) (Included r.«end») true) there one.met.answered) one.met.left
+    set-settled = given-settled one.met
 
     set-few : stretches (held_by v i) ≤ stretches (held_by w i) + 1
     set-few = omega (arith, stretches-cong (held_by v i) Q (λ x u. set-settled.holds x u ∙ sym (bounded-is Q x u)), set-more)

@@ -10,8 +10,7 @@ use lib.ListN.{length}
 use Rattle.model.specs.Numbers.{size, most_worlds}
 use Rattle.model.specs.Positions.{Positions, empty}
 use Rattle.model.proofs.Numbers.{split}
-use Rattle.run_index.specs.declared.Node.{Node}
-use Rattle.run_index.specs.Cells.{cell_at, Wrote}
+use Rattle.run_index.specs.Cells.{cell_at}
 use Rattle.run_index.specs.Tree.{Tree, leaf, node, runs, Distinct, cell, Rep}
 use Rattle.run_index.specs.Promises.{Owned}
 use Rattle.run_index.specs.Strung.{Free, free_cell, felled, Felled}
@@ -22,17 +21,7 @@ use Rattle.run_index.proofs.Strings.{times-append, length_both, count-felled, le
 use Rattle.run_index.proofs.Felling.{right-stays, root-room, felled-all}
 use Rattle.pool.specs.declared.World.{World}
 use Rattle.pool.specs.declared.Links.{Links}
-use Rattle.pool.specs.Layout.{
-  opened_at,
-  free_head,
-  record_at,
-  world_at,
-  floor_at,
-  ceiling_at,
-  nodes,
-  Headed,
-  held_by,
-}
+use Rattle.pool.specs.Layout.{opened_at, free_head, world_at, floor_at, ceiling_at, nodes, held_by}
 use Rattle.pool.specs.Soundness.{Footprint, Represents, Standing, footprint_of, Sound}
 use Rattle.pool.specs.Settle.{Settled, Closing}
 use Rattle.pool.proofs.Parts.{back, lent-nodes, back-nodes, back-front, back_long, cells-before}

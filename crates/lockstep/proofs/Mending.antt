@@ -1,85 +1,46 @@
 -- Mending, over what the public calls promise: a set that loads comes back byte for byte with every run kept, and what was
 -- written as the mended set loads and leaves the worlds that mending left; in edition 2 a reader that knows edition 1 alone
 -- refuses it. Assumes nothing.
-use Rattle.std.specs.Prelude.{Option, None, Some, Ok}
+use Rattle.std.specs.Prelude.{Some}
 use Prim.Native.Nat.{ℕ, ◌≤◌}
-use mathlib.Core.Path.{◌≡◌, refl, sym, ap, ap₂, ◌∙◌, subst}
-use mathlib.Core.Bool.{Bool, true, false}
-use mathlib.Core.List.{List, ◌∷◌, ◌++◌}
+use mathlib.Core.Path.{◌≡◌, sym, ap, ◌∙◌, subst}
+use mathlib.Core.Bool.{true}
+use mathlib.Core.List.{List}
 use native.Mathlib.Omega.{arith}
 use lib.ListN.{length, take, replicate}
-use borrow.Author.Tests.{ltb-false, not-false}
+use borrow.Author.Tests.{not-false}
 use Rattle.model.specs.declared.Edition.TheVariants.{Columns}
 use Rattle.model.specs.Positions.{held_runs, stretches, mem, bounded}
 use Rattle.model.specs.Bytes.{encode, edition_of, decode, into_front}
 use Rattle.model.specs.RunList.{AllBytes}
 use Rattle.model.specs.Mending.{mended_positions, mended_set, mend_report}
-use Rattle.model.specs.Refusals.{capacity as too_much, Condition, ◌when◌, refusal, ordered_from, disordered, too_many, no_room}
-use Rattle.model.specs.Call.{Call, Result, done, mended, Answer, gave}
-use Rattle.model.specs.Model.{positions_of, reads, settle, change, mending, serve}
+use Rattle.model.specs.Refusals.{ordered_from, disordered, too_many, no_room}
+use Rattle.model.specs.Call.{Call, done, mended, Answer, gave}
 use Rattle.model.specs.Converting.{document_one_refusal}
 use Rattle.model.proofs.Codec.{decode-words}
 use Rattle.model.proofs.Converting.{columns-refused}
 use Rattle.model.proofs.RoundTrips.{Accepted, accepted-bytes, held-read, held-accepted, bounded-held}
 use Rattle.pool.specs.Layout.{allowance, worlds_of}
-use Rattle.pool.specs.Settle.{Settled}
+use Rattle.pool.specs.Settle.{Settled, Openable}
 use Rattle.union.proofs.Fating.{fates-length, ordered-fates}
-use Rattle.interval_bit_set.specs.Met.{fed_of, full_at, outcome_of, Readable, Met}
-use Rattle.interval_bit_set.proofs.Refusing.{none_before, refused_full}
-use Rattle.interval_bit_set.proofs.Changing.{full-above}
-use Rattle.interval_bit_set.proofs.Putting.{take-front}
-use Rattle.interval_bit_set.proofs.Served.{unrefused}
+use Rattle.interval_bit_set.specs.Met.{full_at, Met}
+use Rattle.interval_bit_set.proofs.Changing.{fits-few}
+use Rattle.lockstep.proofs.Writing.{front-is}
+use Rattle.interval_bit_set.proofs.Giving.{quiet-fits, given-readable, given-quiet, given-is, given-settled}
 use Rattle.interval_bit_set.proofs.Mending.{allowed-most, conditions}
-use Rattle.interval_bit_set.proofs.Looking.{looked-sound}
 use Rattle.lockstep.specs.Determinism.{Loads}
 use Rattle.lockstep.proofs.Forms.{met-alike}
 use Rattle.lockstep.proofs.Loading.{load-met, loaded-accepted}
-use Rattle.lockstep.proofs.Writing.{unearned}
-
--- where 8 is not given, the runs are not too many
-unfull : (t : Bool) (cs : List Condition) → refusal (too_much when t ∷ cs) ≡ None → t ≡ false
-unfull true cs e =
-    let f : ◌≡◌ {A = Option ℕ} (Some 8) None = sym (refused_full cs (none_before (too_much when true ∷ cs) e)) ∙ e in
-    let z : ◌≡◌ {A = ℕ} 0 1 = cc in
-    absurd (omega arith)
-unfull false cs e = refl
 
 module _ (w : List ℕ) (i : ℕ) (bs out report : List ℕ) where
-  -- the conditions of the world and of the bytes
-  abbrev due : List Condition
-  due = too_much when too_many (full_at w i) (mended_positions bs) ∷ conditions bs (no_room out (mended_set bs)) (no_room report (mend_report bs))
-
-  -- both lengths and both slices, where nothing is refused
-  abbrev gives : Result
-  gives = mended (length (mended_set bs)) (into_front (mended_set bs) out) (length (mend_report bs)) (into_front (mend_report bs) report)
-
-  -- what the model gives of mending, by its conditions
-  mend-by : outcome_of w i (Call.mend bs out report) ≡ settle (refusal (reads (fed_of w i) ++ due)) (positions_of (fed_of w i)) gives (bounded (mended_positions bs))
-  unfolding outcome_of serve mending change
-  mend-by = refl
-
   module _ {out' report' w' : List ℕ} {n m : ℕ} (M : Met w i (Call.mend bs out report) (gave (mended n out' m report')) w') where
-    -- nothing was refused
-    unrefused-mend : refusal (reads (fed_of w i) ++ due) ≡ None
-    unrefused-mend = unrefused _ _ _ _ _ (M.answered ∙ ap (λ o. o.answer) mend-by)
-
-    -- so the world can be read
-    mended-readable : Readable w i
-    mended-readable = looked-sound {T = Unit {0}} (Ok tt) (sym (unearned (fed_of w i) due unrefused-mend)) refl
-
     -- both slices were filled as they should be
-    filled : gave (mended n out' m report') ≡ gave gives
-    filled =
-        M.answered ∙ ap (λ o. o.answer) mend-by
-        ∙ ap (λ r. (settle r (positions_of (fed_of w i)) gives (bounded (mended_positions bs))).answer) unrefused-mend
+    filled : mended n out' m report' ≡ mended (length (mended_set bs)) (into_front (mended_set bs) out) (length (mend_report bs)) (into_front (mend_report bs) report)
+    filled = given-is M
 
     -- the mended set is in front of one
     set_is : take n out' ≡ mended_set bs
-    set_is =
-        let f = filled in
-        let a : n ≡ length (mended_set bs) = cc in
-        let b : out' ≡ into_front (mended_set bs) out = cc in
-        ap₂ take a b ∙ take-front (mended_set bs) out
+    set_is = let f = filled in front-is (mended_set bs) out cc
 
     -- so a reader that knows edition 1 alone gives 4 to it, where the set read was of edition 2
     pub mend-old-refused : edition_of bs ≡ Columns → document_one_refusal (take n out') ≡ Some 4
@@ -93,10 +54,7 @@ module _ (w : List ℕ) (i : ℕ) (bs out report : List ℕ) where
     report-many = let f = filled in cc
 
     report-is : take m report' ≡ mend_report bs
-    report-is =
-        let f = filled in
-        let b : report' ≡ into_front (mend_report bs) report = cc in
-        ap₂ take report-many b ∙ take-front (mend_report bs) report
+    report-is = let f = filled in front-is (mend_report bs) report cc
 
     -- a set that loads comes back, and each of its runs is kept
     pub right-comes-back : {C : ℕ} → AllBytes bs → Loads C bs → (take n out' ≡ bs) × (take m report' ≡ replicate m 2)
@@ -107,23 +65,22 @@ module _ (w : List ℕ) (i : ℕ) (bs out report : List ℕ) where
         let k : length (decode bs) ≡ m = sym (report-many ∙ fates-length (decode bs) 0 (decode bs)) in
         (set_is ∙ (accepted-bytes _ bs b A).0, report-is ∙ ordered-fates (decode bs) (decode-words bs b) o ∙ ap (λ j. replicate j 2) k)
 
+    abbrev o : Openable w i
+    o = (given-readable M).openable
+
     -- the outcome is within the allowance
-    not_full : too_many (full_at w i) (mended_positions bs) ≡ false
-    not_full =
-        unfull (too_many (full_at w i) (mended_positions bs)) (conditions bs (no_room out (mended_set bs)) (no_room report (mend_report bs)))
-        (sym (ap (λ s. refusal (reads s ++ due)) mended-readable.fed) ∙ unrefused-mend)
+    fits : stretches (mended_positions bs) ≤ allowance w i
+    fits =
+        quiet-fits o (mended_positions bs) (conditions bs (no_room out (mended_set bs)) (no_room report (mend_report bs))) (given-quiet M)
 
     -- so it has no more runs than a written set can tell
     few : stretches (mended_positions bs) ≤ 65536
-    unfolding too_many
-    few =
-        let o = mended-readable.openable in
-        omega (arith, allowed-most o, ltb-false (allowance w i) (stretches (mended_positions bs)) (sym (ap (λ f. f (stretches (mended_positions bs))) (full-above o)) ∙ not_full))
+    few = omega (arith, allowed-most o, fits)
 
     -- what was written is accepted
     set-accepted : Accepted (full_at w i) (take n out')
     unfolding mended_set too_many
-    set-accepted = subst (Accepted (full_at w i)) (sym set_is) (held-accepted (full_at w i) (edition_of bs) (mended_positions bs) few not_full)
+    set-accepted = subst (Accepted (full_at w i)) (sym set_is) (held-accepted (full_at w i) (edition_of bs) (mended_positions bs) few (fits-few o (mended_positions bs) fits))
 
     -- and read as the outcome
     set-settled : Settled w w' i (bounded (mem (decode (take n out'))))
@@ -131,10 +88,8 @@ module _ (w : List ℕ) (i : ℕ) (bs out report : List ℕ) where
     set-settled =
         let P = mended_positions bs in
         subst (Settled w w' i)
-        (ap (λ o. o.positions) mend-by ∙ ap (λ r. (settle r (positions_of (fed_of w i)) gives (bounded P)).positions) unrefused-mend
-        ∙ sym (ap (λ l. bounded (mem (decode l))) set_is ∙ ap (λ rs. bounded (mem rs)) (held-read (edition_of bs) P few) ∙ bounded-held P))
-        M.left
+        (sym (ap (λ l. bounded (mem (decode l))) set_is ∙ ap (λ rs. bounded (mem rs)) (held-read (edition_of bs) P few) ∙ bounded-held P)) (given-settled M)
 
     -- so it loads into the world that was mended into, and leaves the same worlds
     pub outcome-loads : {a : Answer} {v' : List ℕ} → Met w i (Call.load (take n out')) a v' → (a ≡ gave done) × (worlds_of v' ≡ worlds_of w')
-    outcome-loads k = met-alike k (load-met mended-readable.openable set-accepted set-settled)
+    outcome-loads k = met-alike k (load-met o set-accepted set-settled)

@@ -5,43 +5,22 @@
 use Rattle.std.specs.Prelude.{Option, None, Some, Ok, Err}
 use Prim.Native.Nat.{ℕ}
 use mathlib.Core.Path.{◌≡◌, refl, sym, ap, ap₂, ◌∙◌, subst}
-use mathlib.Core.Bool.{not}
 use mathlib.Core.List.{List, [], ◌∷◌}
-use native.Mathlib.Omega.{arith}
-use borrow.Author.Tests.{ne_eqb}
 use Rattle.model.specs.declared.Listing.{Listing}
 use Rattle.model.specs.declared.Mended.{Mended}
 use Rattle.model.specs.declared.Run.{Run}
 use Rattle.model.specs.Answers.{OrRefusal, written_answer, mended_answer}
-use Rattle.model.specs.Refusals.{store_length, store_unsound, output_short, ◌when◌, refusal, no_room}
-use Rattle.model.specs.Call.{
-  Call,
-  make,
-  measure,
-  at,
-  PoolCall,
-  feed_pool,
-  done,
-  number,
-  tallied,
-  value,
-  around,
-  position,
-  drawn,
-  written,
-  mended,
-  Result,
-  Answer,
-  refused,
-  gave,
-}
+use Rattle.model.specs.Refusals.{output_short, ◌when◌, refusal, no_room}
+use Rattle.model.specs.Call.{Call, make, measure, at, PoolCall, told_as, done, Answer, refused, gave}
+use Rattle.model.specs.Model.{plan, or_else}
 use Rattle.model.specs.Pools.{PlainWorld, step, answers, after}
 use Rattle.pool.specs.Layout.{capacity_of, capacity, worlds_of}
 use Rattle.pool.specs.Free.{Pooled}
 use Rattle.pool.proofs.Whole.{sound_b-no}
-use Rattle.interval_bit_set.specs.Met.{Site, fed_at, outcome_of, Leaves, Met, MakeLeaves, Made, Measured}
+use Rattle.interval_bit_set.specs.Met.{Site, faults, fed_at, outcome_of, Leaves, Met, MakeLeaves, Made, Measured}
 use Rattle.interval_bit_set.specs.Out.{Unwritten, Unmended}
 use Rattle.interval_bit_set.proofs.Meeting.{refused-not}
+use Rattle.interval_bit_set.proofs.Looking.{short-no}
 use Rattle.interval_bit_set.proofs.Simulation.{
   Holds,
   answer-is,
@@ -65,7 +44,7 @@ use Rattle.lockstep.specs.Plays.{
   single,
   frame,
   Move,
-  feed_move,
+  plan_move,
   Heard,
   heard_as,
   Moves,
@@ -85,7 +64,7 @@ use Rattle.lockstep.specs.Plays.{
 }
 
 -- what a move keeps: it is as the model says, and the pool goes on to hold the model's worlds
-pub record Went (C : ℕ) (o : MoveOutcome) (w : List ℕ) (m : Move Site) (h : Heard) (w' : List ℕ) : Type 0 where
+pub record Went (C : ℕ) (o : MoveOutcome) (w : List ℕ) (m : Move (Call Site)) (h : Heard) (w' : List ℕ) : Type 0 where
   pub told : IsAsTold o w m h w'
   pub holds : Holds C o.worlds w'
 
@@ -94,15 +73,7 @@ pub record Went (C : ℕ) (o : MoveOutcome) (w : List ℕ) (m : Move Site) (h : 
 nothing-left : (a : Answer) → nothing ≡ lent_after a nothing
 nothing-left (refused n) = refl
 nothing-left (gave done) = refl
-nothing-left (gave (number n)) = refl
-nothing-left (gave (tallied n m)) = refl
-nothing-left (gave (value b)) = refl
-nothing-left (gave (around r)) = refl
-nothing-left (gave (position o)) = refl
-nothing-left (gave (Result.listing l)) = refl
-nothing-left (gave (drawn o l)) = refl
-nothing-left (gave (written n bs)) = refl
-nothing-left (gave (mended n bs m cs)) = refl
+nothing-left (gave r) = refl
 
 -- a listing that was drawn from
 drawn-left : (r : OrRefusal (Option Run)) (l l' : Listing) → Unmoved r l l'
@@ -124,36 +95,36 @@ mended-left (Ok m) out out' report report' u = refl
 
 -- ---- a single call
 -- the call c on the words w answered a and left w', as it promises
-abbrev Stepped : List ℕ → PoolCall Site → Answer → List ℕ → Type 0
+abbrev Stepped : List ℕ → PoolCall (Call Site) → Answer → List ℕ → Type 0
 Stepped w (make ls) a w' = Made w ls a w'
 Stepped w (measure q out) a w' = Measured w q out a w'
 Stepped w (at i c) a w' = Met w i c a w'
 
 -- it answers as the model does
-stepped-answer : {C : ℕ} {vs : List PlainWorld} {w : List ℕ} (w' : List ℕ) (a : Answer) (c : PoolCall Site)
-    → Holds C vs w → Stepped w c a w' → a ≡ (step C vs (feed_pool fed_at c)).answer
+stepped-answer : {C : ℕ} {vs : List PlainWorld} {w : List ℕ} (w' : List ℕ) (a : Answer) (c : PoolCall (Call Site))
+    → Holds C vs w → Stepped w c a w' → a ≡ (step C vs (told_as (plan fed_at) c)).answer
 stepped-answer w' a (make ls) H m = made-answer H m
 stepped-answer w' a (measure q out) H m = measured-answer H m
 stepped-answer w' a (at i c) H m = answer-is H m
 
 -- and leaves the model's worlds
-stepped-holds : {C : ℕ} {vs : List PlainWorld} {w : List ℕ} (w' : List ℕ) (a : Answer) (c : PoolCall Site)
-    → Holds C vs w → Stepped w c a w' → Holds C (step C vs (feed_pool fed_at c)).worlds w'
+stepped-holds : {C : ℕ} {vs : List PlainWorld} {w : List ℕ} (w' : List ℕ) (a : Answer) (c : PoolCall (Call Site))
+    → Holds C vs w → Stepped w c a w' → Holds C (step C vs (told_as (plan fed_at) c)).worlds w'
 stepped-holds w' a (make ls) H m = made_holds H m
 stepped-holds w' a (measure q out) H m = measured-holds H m
 stepped-holds w' a (at i c) H m = step-holds H m
 
 -- refused, it leaves the words
-stepped-refused : {w w' : List ℕ} {a : Answer} {n : ℕ} (c : PoolCall Site)
+stepped-refused : {w w' : List ℕ} {a : Answer} {n : ℕ} (c : PoolCall (Call Site))
     → Stepped w c a w' → a ≡ refused n → w' ≡ w
 stepped-refused {w} {w'} (make ls) s e = subst (MakeLeaves w w' ls) e s.left
 stepped-refused (measure q out) s e = s.left
 stepped-refused {w} {w'} (at i c) s e = subst (Leaves w w' i (outcome_of w i c).positions) e s.left
 
 single-went :
-    {C : ℕ} {vs : List PlainWorld} {w w' : List ℕ} {a : Answer} (c : PoolCall Site) (l l' : Lent)
+    {C : ℕ} {vs : List PlainWorld} {w w' : List ℕ} {a : Answer} (c : PoolCall (Call Site)) (l l' : Lent)
     → Holds C vs w → Stepped w c a w' → l' ≡ lent_after a l
-    → Went C (move_outcome C vs (single (feed_pool fed_at c) l)) w (single c l) (heard_as a l') w'
+    → Went C (move_outcome C vs (single (told_as (plan fed_at) c) l)) w (single c l) (heard_as a l') w'
 single-went {w' = w'} {a = a} c l l' H s e =
     let K = stepped-holds w' a c H s in
     let f = stepped-answer w' a c H s in
@@ -168,17 +139,17 @@ single-went {w' = w'} {a = a} c l l' H s e =
 
 -- ---- a frame
 module _ {C : ℕ} {vs : List PlainWorld} {w : List ℕ} (H : Holds C vs w) (calls out : List ℕ) where
-  -- the model says of it what its promise says, but for 1 and 7
+  -- the pool has no fault
+  no-fault : faults (w ∷ []) ≡ None
+  no-fault = rw (short-no w H.sound.sized, sound_b-no w H.sound)
+
+  -- so the model says of it what its promise says
   frame-is : Frame.frame_outcome w calls out ≡ frame_by C vs calls out
   unfolding Frame.frame_outcome frame_of
   frame-is =
       let due : List ℕ = records_of (answers (capacity w) (worlds_of w) (calls_of calls)) in
       let us : List PlainWorld = after (capacity w) (worlds_of w) (calls_of calls) in
-      let short = output_short when no_room out due ∷ [] in
-      ap₂
-      (λ z s. settle_frame (refusal (store_length when z ∷ store_unsound when not s ∷ short)) (worlds_of w) us due
-      out)
-      (ne_eqb (capacity w) 0 (λ z. omega (arith, H.sound.sized))) (sound_b-no w H.sound)
+      ap (λ o. settle_frame (or_else o (refusal (output_short when no_room out due ∷ []))) (worlds_of w) us due out) no-fault
       ∙ ap₂ (λ k us. frame_by k us calls out) H.sized H.held
 
   module _ {a : Answer} {w' out' : List ℕ} where
@@ -218,8 +189,8 @@ module _ {C : ℕ} {vs : List PlainWorld} {w : List ℕ} (H : Holds C vs w) (cal
         (F.wrote ∙ ap (λ o. o.slice) frame-is)
 
 -- ---- any move
-pub went : {C : ℕ} {vs : List PlainWorld} {w w' : List ℕ} {m : Move Site} {h : Heard}
-    → Holds C vs w → Moves w m h w' → Went C (move_outcome C vs (feed_move m)) w m h w'
+pub went : {C : ℕ} {vs : List PlainWorld} {w w' : List ℕ} {m : Move (Call Site)} {h : Heard}
+    → Holds C vs w → Moves w m h w' → Went C (move_outcome C vs (plan_move m)) w m h w'
 went H (made {ls = ls} {a = a} s) = single-went (make ls) nothing nothing H s (nothing-left a)
 went H (met {i = i} {c = c} {a = a} s) = single-went (at i c) nothing nothing H s (nothing-left a)
 went H (drew {i = i} draw {l = l} {l' = l'} {r = r} d) =

@@ -2,15 +2,16 @@
 -- sum of what the others claim, and on nothing else. A call on world i leaves that sum, and one on a neighbour leaves world
 -- i: so lists of calls on world i are answered alike, if the sums are the same after the calls in between. Assumes nothing.
 use Rattle.std.specs.Prelude.{Option, None, Some}
-use Prim.Native.Nat.{ℕ, zero, suc, ◌+◌}
+use Prim.Native.Nat.{ℕ, zero, suc}
 use mathlib.Core.Path.{◌≡◌, refl, sym, ap, ap₂, ◌∙◌}
 use mathlib.Core.List.{List, [], ◌∷◌}
 use Rattle.model.specs.Positions.{Positions}
-use Rattle.model.specs.Call.{Fed, Call, feed, Answer}
-use Rattle.model.specs.Model.{serve}
-use Rattle.model.specs.Pools.{PlainWorld, world_of, fed_by, claim, other_claims, exceeds, full, with_positions, holding_at, serve_at, step}
+use Rattle.model.specs.Call.{Call, Answer}
+use Rattle.model.specs.Model.{Plan, plan, serve}
+use Rattle.model.specs.Pools.{PlainWorld, world_of, fed_by, other_claims, exceeds, full, with_positions, holding_at, serve_at, step}
 use Rattle.pool.specs.Layout.{worlds_of}
 use Rattle.interval_bit_set.specs.Met.{Site, fed_at, Met}
+use Rattle.interval_bit_set.proofs.Allowing.{others-holding}
 use Rattle.interval_bit_set.proofs.Simulation.{Holds, answer-is, step-holds}
 use Rattle.lockstep.specs.Beside.{Neighbours, Beside}
 
@@ -21,7 +22,7 @@ replaced P (Some x) = Some (with_positions x P)
 
 -- ---- world i alone, and the sum of what the others claim
 -- what the model says of a call on it
-serve-alike : (C : ℕ) (us vs : List PlainWorld) (i : ℕ) (c : Call Fed) → world_of us i ≡ world_of vs i → other_claims us i ≡ other_claims vs i → serve_at C us i c ≡ serve_at C vs i c
+serve-alike : (C : ℕ) (us vs : List PlainWorld) (i : ℕ) (c : Plan) → world_of us i ≡ world_of vs i → other_claims us i ≡ other_claims vs i → serve_at C us i c ≡ serve_at C vs i c
 unfolding serve_at full
 serve-alike C us vs i c e f = ap₂ (λ o n. serve (exceeds C n o) (fed_by o) c) e f
 
@@ -32,25 +33,18 @@ world-left [] i P = refl
 world-left (y ∷ ws) zero P = refl
 world-left (y ∷ ws) (suc i) P = world-left ws i P
 
--- what the others claim does not depend on what this world holds
-pub holding-others : (i : ℕ) (P : Positions) (ws : List PlainWorld) → other_claims (holding_at i P ws) i ≡ other_claims ws i
-unfolding other_claims holding_at
-holding-others i P [] = refl
-holding-others zero P (x ∷ ws) = refl
-holding-others (suc i) P (x ∷ ws) = ap (λ n. claim x + n) (holding-others i P ws)
-
 -- so two pools that agree in these answer it alike, and leave world i alike
 pub alike : {C : ℕ} {us vs : List PlainWorld} {w v : List ℕ} (i : ℕ) {c d : Call Site} {a b : Answer} {w' v' : List ℕ} → Holds C us w → Holds C vs v
-    → world_of us i ≡ world_of vs i → other_claims us i ≡ other_claims vs i → feed fed_at c ≡ feed fed_at d → Met w i c a w' → Met v i d b v'
+    → world_of us i ≡ world_of vs i → other_claims us i ≡ other_claims vs i → plan fed_at c ≡ plan fed_at d → Met w i c a w' → Met v i d b v'
     → (a ≡ b) × (world_of (worlds_of w') i ≡ world_of (worlds_of v') i)
 unfolding step
 alike {C} {us} {vs} i {c} {d} H K e f g m n =
-    let o = serve-alike C us vs i (feed fed_at c) e f ∙ ap (serve_at C vs i) g in (
+    let o = serve-alike C us vs i (plan fed_at c) e f ∙ ap (serve_at C vs i) g in (
       answer-is H m ∙ ap (λ p. p.answer) o ∙ sym (answer-is K n),
       ap (λ l. world_of l i) (step-holds H m).held
-          ∙ world-left us i (serve_at C us i (feed fed_at c)).positions
+          ∙ world-left us i (serve_at C us i (plan fed_at c)).positions
           ∙ ap₂ (λ p x. replaced p.positions x) o e
-          ∙ sym (world-left vs i (serve_at C vs i (feed fed_at d)).positions)
+          ∙ sym (world-left vs i (serve_at C vs i (plan fed_at d)).positions)
           ∙ sym (ap (λ l. world_of l i) (step-holds K n).held),
     )
 
@@ -65,8 +59,8 @@ sum-stays : {C : ℕ} {w w' : List ℕ} {i : ℕ} {c : Call Site} {a : Answer}
     → Holds C (worlds_of w) w → Met w i c a w' → other_claims (worlds_of w') i ≡ other_claims (worlds_of w) i
 unfolding step
 sum-stays {C} {w} {i = i} {c} H m =
-    let o = serve_at C (worlds_of w) i (feed fed_at c) in
-    ap (λ l. other_claims l i) (step-holds H m).held ∙ holding-others i o.positions (worlds_of w)
+    let o = serve_at C (worlds_of w) i (plan fed_at c) in
+    ap (λ l. other_claims l i) (step-holds H m).held ∙ others-holding i o.positions (worlds_of w)
 
 -- other worlds than that which a call is on are left
 holding-other : (i j : ℕ) (P : Positions) (ws : List PlainWorld) → (i ≡ j → ⊥)
@@ -84,7 +78,7 @@ neighbours-leave : {C i : ℕ} {w w' : List ℕ} → Holds C (worlds_of w) w →
 unfolding step
 neighbours-leave H Neighbours.none = (H, refl)
 neighbours-leave {C} {i} {w} H (Neighbours.call {j = j} {c} ne m N) =
-    let o = serve_at C (worlds_of w) j (feed fed_at c) in
+    let o = serve_at C (worlds_of w) j (plan fed_at c) in
     let r = neighbours-leave (met-holds H m) N in
     (r.0, r.1 ∙ ap (λ l. world_of l i) (step-holds H m).held ∙ holding-other i j o.positions (worlds_of w) ne)
 

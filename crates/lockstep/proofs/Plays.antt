@@ -1,16 +1,17 @@
 -- A whole play goes along with the plain model, move by move, from a new pool on. So what is heard and the worlds after
--- each move are told by the worlds before and the moves as the model is fed them, and two pools that hold the same worlds
+-- each move are told by the worlds before and the plans of the moves, and two pools that hold the same worlds
 -- play on alike. Assumes nothing.
 use Prim.Native.Nat.{ℕ}
 use mathlib.Core.Path.{◌≡◌, refl, sym, ap, ap₂, ◌∙◌}
 use mathlib.Core.List.{List, [], ◌∷◌, map}
 use Rattle.model.specs.declared.Limits.{Limits}
-use Rattle.model.specs.Call.{Fed}
+use Rattle.model.specs.Call.{Call}
+use Rattle.model.specs.Model.{Plan}
 use Rattle.model.specs.Pools.{PlainWorld, empty_worlds}
 use Rattle.pool.specs.Layout.{capacity_of, worlds_of}
 use Rattle.interval_bit_set.specs.Met.{Site}
 use Rattle.interval_bit_set.proofs.Simulation.{Holds}
-use Rattle.lockstep.specs.Plays.{Move, feed_move, fed, Heard, New, rest, move, Plays, left}
+use Rattle.lockstep.specs.Plays.{Move, plan_move, plans, Heard, New, rest, move, Plays, left}
 use Rattle.lockstep.specs.Plays.{move_outcome, worlds_after, over, next, Follows}
 use Rattle.lockstep.specs.Determinism.{PlayAlike}
 use Rattle.lockstep.proofs.Moves.{went}
@@ -24,36 +25,36 @@ new-holds N =
 
 -- each move goes along
 pub goes-along :
-    {C : ℕ} {vs : List PlainWorld} {w : List ℕ} {ms : List (Move Site)} {hs : List Heard} {ws : List (List ℕ)}
+    {C : ℕ} {vs : List PlainWorld} {w : List ℕ} {ms : List (Move (Call Site))} {hs : List Heard} {ws : List (List ℕ)}
     → Holds C vs w → Plays w ms hs ws → Follows C vs w ms hs ws
 goes-along H rest = over
 goes-along {C = C} {vs = vs} H (move {m = m} s p) =
     let W = went H s in
-    next W.told (goes-along {C = C} {vs = (move_outcome C vs (feed_move m)).worlds} W.holds p)
+    next W.told (goes-along {C = C} {vs = (move_outcome C vs (plan_move m)).worlds} W.holds p)
 
 -- the pool in the end
 pub left-after :
-    {C : ℕ} {vs : List PlainWorld} {w : List ℕ} {ms : List (Move Site)} {hs : List Heard} {ws : List (List ℕ)}
-    → Holds C vs w → Plays w ms hs ws → Holds C (worlds_after C vs (fed ms)) (left w ws)
+    {C : ℕ} {vs : List PlainWorld} {w : List ℕ} {ms : List (Move (Call Site))} {hs : List Heard} {ws : List (List ℕ)}
+    → Holds C vs w → Plays w ms hs ws → Holds C (worlds_after C vs (plans ms)) (left w ws)
 left-after H rest = H
 left-after {C = C} {vs = vs} H (move {m = m} s p) =
-    left-after {C = C} {vs = (move_outcome C vs (feed_move m)).worlds} (went H s).holds p
+    left-after {C = C} {vs = (move_outcome C vs (plan_move m)).worlds} (went H s).holds p
 
 -- ---- what the model says of a list of moves
 -- what is heard
-abbrev heards : ℕ → List PlainWorld → List (Move Fed) → List Heard
+abbrev heards : ℕ → List PlainWorld → List (Move Plan) → List Heard
 heards C vs [] = []
 heards C vs (m ∷ ms) = (move_outcome C vs m).heard ∷ heards C (move_outcome C vs m).worlds ms
 
 -- the worlds after each
-abbrev stages : ℕ → List PlainWorld → List (Move Fed) → List (List PlainWorld)
+abbrev stages : ℕ → List PlainWorld → List (Move Plan) → List (List PlainWorld)
 stages C vs [] = []
 stages C vs (m ∷ ms) = (move_outcome C vs m).worlds ∷ stages C (move_outcome C vs m).worlds ms
 
 -- that is what a play gives which goes along
 told-all :
-    {C : ℕ} {vs : List PlainWorld} {w : List ℕ} {ms : List (Move Site)} {hs : List Heard} {ws : List (List ℕ)}
-    → Follows C vs w ms hs ws → (hs ≡ heards C vs (fed ms)) × (map worlds_of ws ≡ stages C vs (fed ms))
+    {C : ℕ} {vs : List PlainWorld} {w : List ℕ} {ms : List (Move (Call Site))} {hs : List Heard} {ws : List (List ℕ)}
+    → Follows C vs w ms hs ws → (hs ≡ heards C vs (plans ms)) × (map worlds_of ws ≡ stages C vs (plans ms))
 told-all over = (refl, refl)
 told-all (next t f) =
     let r = told-all f in (

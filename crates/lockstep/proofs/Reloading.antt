@@ -27,14 +27,14 @@ use Rattle.pool.proofs.Turn.{pool-past}
 use Rattle.pool.proofs.WorldLists.{opened-world}
 use Rattle.interval_bit_set.specs.Met.{full_at, Met}
 use Rattle.interval_bit_set.proofs.Changing.{fits-few, bounded-is}
-use Rattle.interval_bit_set.proofs.Meeting.{make-done}
-use Rattle.interval_bit_set.proofs.Served.{bounded-ends}
-use Rattle.interval_bit_set.proofs.Simulation.{same-positions, worlds-after}
+use Rattle.interval_bit_set.proofs.Allowing.{others-holding}
+use Rattle.interval_bit_set.proofs.Giving.{given-readable, given-settled}
+use Rattle.interval_bit_set.proofs.Making.{make-done}
+use Rattle.interval_bit_set.proofs.Simulation.{bounded-ends, same-positions, worlds-after}
 use Rattle.lockstep.specs.Plays.{New}
 use Rattle.lockstep.specs.Determinism.{Loads}
 use Rattle.lockstep.proofs.Writing.{bytes_of}
-use Rattle.lockstep.proofs.Loading.{load-met, loaded-readable, loaded-accepted, loaded-settled}
-use Rattle.lockstep.proofs.Neighbours.{holding-others}
+use Rattle.lockstep.proofs.Loading.{load-met, loaded-accepted}
 use Rattle.lockstep.proofs.Lone.{Lone, lone, cleaned, settled-empty}
 
 -- ---- a sound pool of empty worlds is a new one
@@ -121,7 +121,7 @@ full-same {w} {v} {i} P S l t =
     let x = opened-world w i l in
     ap (λ C. full C (worlds_of v) i) (ap capacity_of t.long)
     ∙ ap (λ ws. full (capacity w) ws i) e
-    ∙ ap₂ (λ n o. exceeds (capacity w) n o) (holding-others i (bounded P) (worlds_of w)) (holding-here (worlds_of w) i (bounded P) x)
+    ∙ ap₂ (λ n o. exceeds (capacity w) n o) (others-holding i (bounded P) (worlds_of w)) (holding-here (worlds_of w) i (bounded P) x)
     ∙ ap (exceeds (capacity w) (other_claims (worlds_of w) i)) (sym x)
 
 -- so bytes that a world holds are accepted before
@@ -155,8 +155,8 @@ pub reloaded : {C : ℕ} {bs : List ℕ} → AllBytes bs → Loads C bs → Relo
 reloaded {C} {bs} b L =
     let i = L.world in
     let P : Positions = bounded (mem (decode bs)) in
-    let o = (loaded-readable L).openable in
-    let t = loaded-settled L in
+    let o = (given-readable L.met).openable in
+    let t = given-settled L.met in
     let named : i < opened_at L.after = omega (arith, o.named, t.opened) in
     let alone = lone L.after i t.sound named in
     let v : List ℕ = alone.0 in

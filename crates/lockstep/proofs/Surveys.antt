@@ -1,6 +1,6 @@
 -- Surveys, over what the public calls promise: what one lists parts its square. A block of one value is the one part of itself, since its count is 0 or
 -- all exactly where its cells have the value of the first one; any other has the parts of its halves, down to a single cell. Assumes nothing.
-use Rattle.std.specs.Prelude.{None, Ok}
+use Rattle.std.specs.Prelude.{None}
 use Prim.Native.Nat.{ℕ, zero, suc, ◌+◌, ◌*◌, ◌-◌, ◌^◌}
 use mathlib.Core.Path.{◌≡◌, refl, sym, ap, ap₂, ◌∙◌}
 use mathlib.Core.Bool.{Bool, true, false, cond, not, true≢false}
@@ -8,26 +8,22 @@ use mathlib.Core.List.{List, [], ◌∷◌, ◌++◌}
 use native.Mathlib.Nat.{two-pow-succ}
 use native.Mathlib.Omega.{arith}
 use Rattle.std.proofs.lemmas.Nat.{pow_pos}
-use lib.ListN.{length, take}
+use lib.ListN.{take}
 use Rattle.model.specs.Positions.{Positions, one_if}
-use Rattle.model.specs.Bytes.{into_front}
 use Rattle.model.specs.Grid
 use Rattle.model.specs.Grid.{cell, one_valued, or_halves, by_row, survey}
-use Rattle.model.specs.Refusals.{off_plane, output_short, Condition, ◌when◌, refusal, bad_square, no_room}
-use Rattle.model.specs.Call.{Fed, wrong_length, unsound, unopened, holding, Call, written, gave}
-use Rattle.model.specs.Model.{positions_of, reads, settle, report}
+use Rattle.model.specs.Refusals.{off_plane, output_short, ◌when◌, refusal, bad_square, no_room}
+use Rattle.model.specs.Call.{Call, written, gave}
 use Rattle.pool.specs.Layout.{held_by}
 use Rattle.grid.specs.Surveys.{OnGrid}
 use Rattle.grid.proofs.Alike.{alike-one, other-two, single-one}
 use Rattle.interval_bit_set.proofs.Planes.{square-on}
-use Rattle.interval_bit_set.specs.Met.{fed_of, Readable, Met}
-use Rattle.interval_bit_set.proofs.Served.{unrefused}
-use Rattle.interval_bit_set.proofs.Putting.{take-front, survey-puts}
-use Rattle.interval_bit_set.proofs.Looking.{looked-sound}
+use Rattle.interval_bit_set.specs.Met.{Met}
+use Rattle.interval_bit_set.proofs.Giving.{some-not, given-quiet, given-is}
+use Rattle.lockstep.proofs.Writing.{front-is}
 use Rattle.lockstep.specs.Surveys.{Piece, piece, HasValue, IsOneValued, Listed, words_of, Parts}
 use Rattle.lockstep.proofs.SurveysHalving.{Halves, square-halves, half-halves}
 use Rattle.lockstep.proofs.SurveysParting.{one-part, both-parts}
-use Rattle.lockstep.proofs.Writing.{unearned}
 
 -- ---- words
 -- those of one list and then of the other
@@ -109,50 +105,22 @@ module _ (P : Positions) where
 
 -- ---- a survey that is not refused
 -- no square is surveyed that is not on the plane
-square-good : (s : Fed) (t b : Bool) → refusal (reads s ++ output_short when t ∷ off_plane when b ∷ []) ≡ None → b ≡ false
-square-good s t false e = refl
-square-good wrong_length t true e = let z : ◌≡◌ {A = ℕ} 0 1 = cc in absurd (omega arith)
-square-good unsound t true e = let z : ◌≡◌ {A = ℕ} 0 1 = cc in absurd (omega arith)
-square-good unopened t true e = let z : ◌≡◌ {A = ℕ} 0 1 = cc in absurd (omega arith)
-square-good (holding P) t true e = let z : ◌≡◌ {A = ℕ} 0 1 = cc in absurd (omega arith)
+square-good : (t b : Bool) → refusal (output_short when t ∷ off_plane when b ∷ []) ≡ None → b ≡ false
+square-good t false e = refl
+square-good t true e = absurd (some-not e)
 
 module _ {w : List ℕ} {i row column k : ℕ} {out out' : List ℕ} {n : ℕ} {w' : List ℕ}
     (m : Met w i (Call.survey row column k out) (gave (written n out')) w') where
-  abbrev P : Positions
-  P = positions_of (fed_of w i)
-
-  -- the words due, and the conditions
   abbrev due : List ℕ
-  due = survey P k row column
+  due = survey (held_by w i) k row column
 
-  abbrev asked : List Condition
-  asked = output_short when no_room out due ∷ off_plane when bad_square row column k ∷ []
-
-  -- what the model gives, by the refusals
-  said : gave (written n out') ≡ (settle (refusal (reads (fed_of w i) ++ asked)) P (written (length due) (into_front due out)) P).answer
-  unfolding report
-  said = m.answered ∙ ap (λ o. o.answer) (survey-puts w i out row column k).says.said
-
-  -- there is none
-  passed : refusal (reads (fed_of w i) ++ asked) ≡ None
-  passed = unrefused (refusal (reads (fed_of w i) ++ asked)) P (written (length due) (into_front due out)) (written n out') P said
-
-  -- so the world can be read
-  surveyed-readable : Readable w i
-  surveyed-readable = looked-sound {T = Unit {0}} (Ok tt) (sym (unearned (fed_of w i) asked passed)) refl
-
-  -- and the words in front are those due of the positions held
-  listed-is : take n out' ≡ survey (held_by w i) k row column
-  listed-is =
-      let e : gave (written n out') ≡ gave (written (length due) (into_front due out)) =
-      said ∙ ap (λ y. (settle y P (written (length due) (into_front due out)) P).answer) passed in
-      let f : n ≡ length due = cc in
-      let g : out' ≡ into_front due out = cc in
-      ap₂ take f g ∙ take-front due out ∙ ap (λ s. survey (positions_of s) k row column) surveyed-readable.fed
+  -- the words in front are those due of the positions held
+  listed-is : take n out' ≡ due
+  listed-is = front-is due out (given-is m)
 
   -- of a square that is on the plane: they list its parts
   pub survey-parted : (ls : List Listed) × (take n out' ≡ words_of ls) × Parts (held_by w i) (piece row column (2 ^ k) (2 ^ k)) ls
   survey-parted =
-      let good = square-good (fed_of w i) (no_room out due) (bad_square row column k) passed in
+      let good = square-good (no_room out due) (bad_square row column k) (given-quiet m) in
       let p = square-parted (held_by w i) k row column (square-on row column k good) in
       (p.parts, listed-is ∙ p.words, p.part)

@@ -1,9 +1,9 @@
 -- Written sets: an opened world writes, in either edition, the bytes of the runs that it holds, and writes them whenever the slice is long
 -- enough. At most C runs are held, so 5 + 16 × C bytes are; and sets written alike are of the same positions. Assumes nothing.
-use Rattle.std.specs.Prelude.{Option, None, Some, Ok, Err}
+use Rattle.std.specs.Prelude.{Ok, Err}
 use Prim.Native.Nat.{ℕ, ◌+◌, ◌*◌, ◌≤◌}
 use mathlib.Core.Path.{◌≡◌, refl, sym, ap, ap₂, ◌∙◌, subst}
-use mathlib.Core.List.{List, [], ◌∷◌, ◌++◌}
+use mathlib.Core.List.{List}
 use native.Mathlib.Nat.{le_trans}
 use native.Mathlib.Omega.{arith}
 use lib.ListN.{length, take}
@@ -11,10 +11,8 @@ use Rattle.model.specs.declared.Edition.{Edition}
 use Rattle.model.specs.Answers.{OrRefusal, written_answer}
 use Rattle.model.specs.Positions.{Positions, held_runs, stretches}
 use Rattle.model.specs.Bytes.{encode, into_front}
-use mathlib.Core.Bool.{Bool, true, false, cond}
-use Rattle.model.specs.Refusals.{store_length, world_limits, output_short, looks, Condition, ◌when◌, given, first_given, refusal, no_room}
-use Rattle.model.specs.Call.{Fed, wrong_length, unsound, unopened, holding, Call, written, Answer, gave}
-use Rattle.model.specs.Model.{positions_of, reads, settle, report, write, serve}
+use Rattle.model.specs.Call.{Call, written, Answer, gave}
+use Rattle.model.specs.Model.{plan, serve}
 use Rattle.model.proofs.Codec.{encode-length}
 use Rattle.model.proofs.RoundTrips.{written-whole, bytes-tell}
 use Rattle.pool.specs.Layout.{capacity, held_by}
@@ -22,62 +20,34 @@ use Rattle.pool.specs.Settle.{Openable}
 use Rattle.pool.proofs.Turn.{pool-past}
 use Rattle.pool.proofs.Nodes.{sized-length}
 use Rattle.pool.proofs.Worlds.{claims-fit}
-use Rattle.interval_bit_set.specs.Met.{fed_of, full_at, outcome_of, Readable, Met}
+use Rattle.interval_bit_set.specs.Met.{fed_at, full_at, outcome_of, Readable, Met}
 use Rattle.interval_bit_set.specs.Out.{WritesOut}
 use Rattle.interval_bit_set.proofs.Meeting.{refused-not, readable, met_by, settled_same}
-use Rattle.interval_bit_set.proofs.Refusing.{unopened-refused}
 use Rattle.interval_bit_set.proofs.Putting.{take-front}
-use Rattle.interval_bit_set.proofs.Served.{unrefused}
+use Rattle.interval_bit_set.proofs.Giving.{given-readable, given-is}
 use Rattle.interval_bit_set.proofs.Simulation.{same-positions}
-use Rattle.interval_bit_set.proofs.Looking.{looked-sound}
 use Rattle.lockstep.specs.Theorems.{WritesSet}
 
 -- the bytes of a set of positions, in an edition
 abbrev pub bytes_of : Edition → Positions → List ℕ
 bytes_of e P = encode e (held_runs P)
 
--- ---- a world that wrote can be read
--- a refusal of a look refuses whatever else there is
-pub unearned : (s : Fed) (cs : List Condition) → refusal (reads s ++ cs) ≡ None → first_given looks (reads s) ≡ None
-unearned (holding P) cs e = refl
-unearned wrong_length cs e = let z : ◌≡◌ {A = ℕ} 0 1 = cc in absurd (omega arith)
-unearned unsound cs e = absurd (go (given store_length cs) (given world_limits cs) e)
-  where
-    go : (x y : Bool) → cond {A = Option ℕ} x (Some 1) (cond {A = Option ℕ} y (Some 11) (Some 7)) ≡ None → ⊥
-    go true y f = let z : ◌≡◌ {A = ℕ} 0 1 = cc in omega arith
-    go false true f = let z : ◌≡◌ {A = ℕ} 0 1 = cc in omega arith
-    go false false f = let z : ◌≡◌ {A = ℕ} 0 1 = cc in omega arith
-unearned unopened cs e =
-    let r = unopened-refused cs in
-    let f : Some r.0 ≡ None = sym r.1 ∙ e in
-    let z : ◌≡◌ {A = ℕ} 0 1 = cc in
-    absurd (omega arith)
+-- what a call told that it wrote is in front of the slice
+pub front-is : (bs out : List ℕ) {n : ℕ} {out' : List ℕ} → written n out' ≡ written (length bs) (into_front bs out) → take n out' ≡ bs
+front-is bs out {n} {out'} e =
+    let f : n ≡ length bs = cc in
+    let s : out' ≡ into_front bs out = cc in
+    ap₂ take f s ∙ take-front bs out
 
--- what the model gives of writing a set, by the test of the slice's room
-write-by : (w : List ℕ) (i : ℕ) (e : Edition) (out : List ℕ) → let s = fed_of w i in let bs = bytes_of e (positions_of s) in
-    outcome_of w i (Call.write_set e out) ≡ settle (refusal (reads s ++ output_short when no_room out bs ∷ [])) (positions_of s) (written (length bs) (into_front bs out)) (positions_of s)
-unfolding outcome_of serve write report
-write-by w i e out = refl
-
+-- ---- a world that wrote
 module _ {w : List ℕ} {i : ℕ} {e : Edition} {bs : List ℕ} (W : WritesSet w i e bs) where
-  -- nothing was refused
-  unrefused-write : refusal (reads (fed_of w i) ++ output_short when no_room W.out (bytes_of e (positions_of (fed_of w i))) ∷ []) ≡ None
-  unrefused-write = unrefused _ _ _ _ _ (W.met.answered ∙ ap (λ o. o.answer) (write-by w i e W.out))
-
+  -- can be read
   pub writer-readable : Readable w i
-  writer-readable = looked-sound {T = Unit {0}} (Ok tt) (sym (unearned (fed_of w i) (output_short when no_room W.out (bytes_of e (positions_of (fed_of w i))) ∷ []) unrefused-write)) refl
+  writer-readable = given-readable W.met
 
-  -- what is written is the bytes of the positions held
+  -- and what is written is the bytes of the positions held
   pub written_is : bs ≡ bytes_of e (held_by w i)
-  written_is =
-      let P = positions_of (fed_of w i) in
-      let cs = bytes_of e P in
-      let r = written (length cs) (into_front cs W.out) in
-      let a = W.met.answered ∙ ap (λ o. o.answer) (write-by w i e W.out) in
-      let f : gave (written W.count W.slice) ≡ gave r = a ∙ ap (λ n. (settle n P r P).answer) unrefused-write in
-      let n : W.count ≡ length cs = cc in
-      let s : W.slice ≡ into_front cs W.out = cc in
-      W.bytes ∙ ap₂ take n s ∙ take-front cs W.out ∙ ap (λ f. bytes_of e (positions_of f)) writer-readable.fed
+  written_is = W.bytes ∙ front-is (bytes_of e (held_by w i)) W.out (given-is W.met)
 
 -- ---- what a call answers that writes into a slice
 -- bytes that it tells of are its slice's
@@ -120,7 +90,7 @@ module _ {w : List ℕ} {i : ℕ} (o : Openable w i) where
     wrote : (out : List ℕ) → let bs = bytes_of e (held_by w i) in
         length bs ≤ length out → outcome_of w i (Call.write_set e out) ≡ record { answer = gave (written (length bs) (into_front bs out)); positions = held_by w i }
     unfolding outcome_of
-    wrote out h = ap (λ s. serve (full_at w i) s (Call.write_set e out)) (readable o).fed ∙ written-whole (full_at w i) e (held_by w i) out h
+    wrote out h = ap (λ s. serve (full_at w i) s (plan fed_at (Call.write_set e out))) (readable o).fed ∙ written-whole (full_at w i) e (held_by w i) out h
 
     -- a slice with room gets the bytes
     pub written_all : {out v : List ℕ} {a : Answer} → let bs = bytes_of e (held_by w i) in

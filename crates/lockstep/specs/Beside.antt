@@ -1,6 +1,7 @@
 -- Calls on one world of each of two pools, while their neighbours are called in between. Assumes nothing: these are definitions.
 use Rattle.std.specs.Prelude.{ℕ, ◌≡◌, List, [], ◌∷◌}
-use Rattle.model.specs.Call.{Call, feed, Answer}
+use Rattle.model.specs.Call.{Call, Answer}
+use Rattle.model.specs.Model.{plan}
 use Rattle.model.specs.Pools.{other_claims}
 use Rattle.pool.specs.Layout.{worlds_of}
 use Rattle.interval_bit_set.specs.Met.{Site, fed_at, Met}

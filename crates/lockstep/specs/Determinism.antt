@@ -11,7 +11,7 @@ use Rattle.model.specs.Pools.{PlainWorld, world_of, empty_worlds}
 use Rattle.pool.specs.Layout.{capacity, worlds_of}
 use Rattle.interval_bit_set.specs.Met.{Site, Met}
 use Rattle.interval_bit_set.specs.Out.{WritesOut}
-use Rattle.lockstep.specs.Plays.{Move, fed, Heard, New, Plays, left, worlds_after, Follows}
+use Rattle.lockstep.specs.Plays.{Move, plans, Heard, New, Plays, left, worlds_after, Follows}
 
 -- a slice that is long enough for any set of a pool of capacity C
 abbrev pub Roomy : ℕ → List ℕ → Type 0
@@ -39,22 +39,22 @@ WriteAlike C xs w ys v =
 -- every later list of equal moves is heard alike, and leaves equal worlds after each move
 abbrev pub PlayAlike : List ℕ → List ℕ → Type 0
 PlayAlike w v =
-    (ms ns : List (Move Site)) (hs gs : List Heard) (ws vs : List (List ℕ))
-    → fed ms ≡ fed ns → Plays w ms hs ws → Plays v ns gs vs → (hs ≡ gs) × (map worlds_of ws ≡ map worlds_of vs)
+    (ms ns : List (Move (Call Site))) (hs gs : List Heard) (ws vs : List (List ℕ))
+    → plans ms ≡ plans ns → Plays w ms hs ws → Plays v ns gs vs → (hs ≡ gs) × (map worlds_of ws ≡ map worlds_of vs)
 
--- what holds of two plays from new pools of capacity C, with the limits ls and ks: each goes along with the model, fed
--- the moves alone; sets are the same bytes exactly where the model's positions are; and where the model's worlds agree,
+-- what holds of two plays from new pools of capacity C, with the limits ls and ks: each goes along with the model, given
+-- the plans of the moves alone; sets are the same bytes exactly where the model's positions are; and where the model's worlds agree,
 -- the two pools play on alike
 pub record Agree
-    (C : ℕ) (ls ks : List Limits) (w v : List ℕ) (ms ns : List (Move Site)) (hs gs : List Heard) (ws vs : List (List ℕ))
+    (C : ℕ) (ls ks : List Limits) (w v : List ℕ) (ms ns : List (Move (Call Site))) (hs gs : List Heard) (ws vs : List (List ℕ))
     : Type 0 where
   pub first : Follows C (empty_worlds ls) w ms hs ws
   pub second : Follows C (empty_worlds ks) v ns gs vs
   pub bytes :
-      WriteAlike C (worlds_after C (empty_worlds ls) (fed ms)) (left w ws)
-      (worlds_after C (empty_worlds ks) (fed ns)) (left v vs)
+      WriteAlike C (worlds_after C (empty_worlds ls) (plans ms)) (left w ws)
+      (worlds_after C (empty_worlds ks) (plans ns)) (left v vs)
   pub later :
-      worlds_after C (empty_worlds ls) (fed ms) ≡ worlds_after C (empty_worlds ks) (fed ns)
+      worlds_after C (empty_worlds ls) (plans ms) ≡ worlds_after C (empty_worlds ks) (plans ns)
       → PlayAlike (left w ws) (left v vs)
 
 -- ---- bytes that are a set
@@ -68,7 +68,7 @@ pub record Loads (C : ℕ) (bs : List ℕ) : Type 0 where
 
 -- some play at capacity C ends in a pool of which a world writes the bytes bs, in some edition
 pub record MayWrite
-    (C : ℕ) (limits : List Limits) (moves : List (Move Site)) (world : ℕ) (edition : Edition) (bs : List ℕ) : Type 0 where
+    (C : ℕ) (limits : List Limits) (moves : List (Move (Call Site))) (world : ℕ) (edition : Edition) (bs : List ℕ) : Type 0 where
   pub first : List ℕ
   pub new : New C limits first
   pub heard : List Heard
@@ -81,7 +81,7 @@ pub record MayWrite
   pub bytes : bs ≡ take n out'
 
 -- every play of these moves does
-abbrev pub Writes : ℕ → List Limits → List (Move Site) → ℕ → Edition → List ℕ → Type 0
+abbrev pub Writes : ℕ → List Limits → List (Move (Call Site)) → ℕ → Edition → List ℕ → Type 0
 Writes C limits moves world edition bs =
     (first : List ℕ) (heard : List Heard) (states : List (List ℕ)) (out out' : List ℕ) (r : OrRefusal ℕ)
     → New C limits first → Plays first moves heard states → Roomy C out
@@ -91,7 +91,7 @@ Writes C limits moves world edition bs =
 -- some moves write the bytes, whichever of what contracts permit is played; and something is
 pub record Writable (C : ℕ) (bs : List ℕ) : Type 0 where
   pub limits : List Limits
-  pub moves : List (Move Site)
+  pub moves : List (Move (Call Site))
   pub world : ℕ
   pub edition : Edition
   pub every : Writes C limits moves world edition bs
@@ -101,9 +101,9 @@ pub record Writable (C : ℕ) (bs : List ℕ) : Type 0 where
 -- a capacity exactly when some play at that capacity writes it
 abbrev pub Determinism : Type 0
 Determinism =
-    ((C : ℕ) (ls ks : List Limits) (w v : List ℕ) (ms ns : List (Move Site)) (hs gs : List Heard) (ws vs : List (List ℕ))
+    ((C : ℕ) (ls ks : List Limits) (w v : List ℕ) (ms ns : List (Move (Call Site))) (hs gs : List Heard) (ws vs : List (List ℕ))
     → New C ls w → New C ks v → Plays w ms hs ws → Plays v ns gs vs → Agree C ls ks w v ms ns hs gs ws vs)
     × ((C : ℕ) (bs : List ℕ) → AllBytes bs
     → (Loads C bs → Writable C bs)
-    × ((limits : List Limits) (moves : List (Move Site)) (world : ℕ) (edition : Edition)
+    × ((limits : List Limits) (moves : List (Move (Call Site))) (world : ℕ) (edition : Edition)
     → MayWrite C limits moves world edition bs → Loads C bs))

@@ -8,8 +8,9 @@ use Rattle.model.specs.declared.Mended.{Mended}
 use Rattle.model.specs.declared.Run.{Run}
 use Rattle.model.specs.Answers.{OrRefusal, completed_answer, written_answer, mended_answer}
 use Rattle.model.specs.Refusals.{output_short, ◌when◌, refusal, no_room}
-use Rattle.model.specs.Call.{Fed, Call, Measure, PoolCall, make, measure, at, feed_pool}
+use Rattle.model.specs.Call.{Call, Measure, PoolCall, make, measure, at, told_as}
 use Rattle.model.specs.Call.{Result, done, drawn, written, mended, Answer, refused, gave}
+use Rattle.model.specs.Model.{Plan, plan}
 use Rattle.model.specs.Pools.{PlainWorld, PoolOutcome, step, answers, after}
 use Rattle.pool.specs.Layout.{capacity, worlds_of}
 use Rattle.interval_bit_set.specs.Met.{Site, fed_at, Met, Made}

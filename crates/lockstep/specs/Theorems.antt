@@ -13,8 +13,8 @@ use Rattle.model.specs.Answers.{written_answer}
 use Rattle.model.specs.Bytes.{edition_of}
 use Rattle.model.specs.RunList.{AllBytes}
 use Rattle.model.specs.Positions.{empty, stretches}
-use Rattle.model.specs.Call.{Call, feed, deepest, why_full, Result, done, number, written, mended, Answer, refused, gave}
-use Rattle.model.specs.Model.{serve}
+use Rattle.model.specs.Call.{Call, deepest, why_full, Result, done, number, written, mended, Answer, refused, gave}
+use Rattle.model.specs.Model.{plan, serve}
 use Rattle.model.specs.Pools.{world_of, other_claims, answers, alone}
 use Rattle.model.specs.Bytes.{into_front}
 use Rattle.model.specs.declared.between.Range.{Range}
