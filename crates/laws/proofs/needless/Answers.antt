@@ -1,9 +1,0 @@
-use Rattle.laws.proofs.Laws.{overwritten, set-covered, flip-undone}
-use Rattle.laws.proofs.needless.Goals as goal
-
-pub returns : goal.returns
-returns c = record {
-  overwritten = overwritten;
-  set_covered = set-covered;
-  flip_undone = flip-undone;
-}

@@ -1,9 +1,0 @@
-use Rattle.laws.proofs.Laws.{shift-unrefused, unrefused-shifted, converse-fails}
-use Rattle.laws.proofs.refusals.Goals as goal
-
-pub returns : goal.returns
-returns c = record {
-  shift_unrefused = shift-unrefused;
-  unrefused_shifted = unrefused-shifted;
-  converse_fails = converse-fails;
-}

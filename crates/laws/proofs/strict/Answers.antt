@@ -1,8 +1,0 @@
-use Rattle.laws.proofs.Laws.{set-strict, flip-strict}
-use Rattle.laws.proofs.strict.Goals as goal
-
-pub returns : goal.returns
-returns c = record {
-  set_strict = set-strict;
-  flip_strict = flip-strict;
-}

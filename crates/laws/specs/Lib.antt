@@ -1,4 +1,0 @@
-pub mod Pairs
-pub mod Laws
-pub mod Swaps
-pub mod Equal

@@ -1,9 +1,0 @@
-use Rattle.lockstep.proofs.Theorems.{cases-hold, worked-hold, columns-back}
-use Rattle.lockstep.proofs.tables.Goals as goal
-
-pub returns : goal.returns
-returns c = record {
-  cases_hold = cases-hold;
-  worked_hold = worked-hold;
-  columns_back = columns-back;
-}

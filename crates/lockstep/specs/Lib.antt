@@ -1,9 +1,0 @@
-pub mod Plays
-pub mod Determinism
-pub mod Clearing
-pub mod Surveys
-pub mod Beside
-pub mod Tables
-pub mod Why
-pub mod Heights
-pub mod Theorems

@@ -1,0 +1,13 @@
+pub mod Plays
+pub mod Determinism
+pub mod Clearing
+pub mod Surveys
+pub mod Beside
+pub mod Tables
+pub mod Why
+pub mod Heights
+pub mod Theorems
+pub mod Pairs
+pub mod Laws
+pub mod Swaps
+pub mod Equal
