@@ -7,6 +7,7 @@ use native.Mathlib.Omega.{arith}
 use lib.ListN.{length}
 use borrow.Author.Tests.{le-ltb}
 use Rattle.model.specs.Positions.{count, find, past_first, past_last, mem}
+use Rattle.model.proofs.Finds.{select_runs}
 use Rattle.model.proofs.Gaps.{first_long}
 use Rattle.model.specs.RunList.{insert, clear}
 use Rattle.model.proofs.RunList.{widths}
@@ -98,7 +99,7 @@ unfolding cells others pools measures handled shown left pool_shown pool_left fi
     middles_up_to runs_at deepest_runs words_of deepest_words clear_map convert converted stray_bits cleared count serve_runs
     plan_runs union_at fates_runs another fed_as runs_of union map_runs some_bit clipped clip set_runs on_range set_to insert clear combine_runs
     and_runs or_runs xor_runs minus_runs set_all flip_runs inverted complement_runs shift_runs shift_left_runs
-    shift_right_runs drawn_first drawn_last past_first past_last widths mem first_long set_rows
+    shift_right_runs drawn_first drawn_last past_first past_last widths mem select_runs first_long set_rows
     rect_runs count_rect_runs row_halves column_halves survey_runs big_endian value_from value_of encode_runs column
     columns_from columns encode runs_due edition_of decode_runs runs_told decode bits bytes_from map_of map_bit
     into_front bad_rect bad_square bad_window bad_map too_short bad_length bad_version ordered_from disordered no_room

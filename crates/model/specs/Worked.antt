@@ -13,7 +13,7 @@ use Rattle.model.specs.declared.Edition.TheVariants.{Rows, Columns}
 use Rattle.model.specs.Positions.{run, mem}
 use Rattle.model.specs.Bytes.{encode, into_front}
 use Rattle.model.specs.Deepest.{deepest_words}
-use Rattle.model.specs.Call.{Call, set, flip, get, run_at, tally, gap, draw_front, draw_back, shift, shifted}
+use Rattle.model.specs.Call.{Call, set, flip, get, run_at, tally, select, gap, draw_front, draw_back, shift, shifted}
 use Rattle.model.specs.Call.{combine, complement, equal, load, mend, build, write_set}
 use Rattle.model.specs.Call.{read_map, write_map, fill, set_strict, flip_strict, tally_strict}
 use Rattle.model.specs.Call.{set_rect, count_rect, survey}
@@ -338,6 +338,16 @@ others =
     ∷ mend three-columns (blank 53) (blank 3) gives mended 53 three-columns 3 (2 ∷ 2 ∷ 2 ∷ [])
     ∷ mend (encode Rows (run 4 3 ∷ run 2 5 ∷ [])) (blank 21) (blank 2) gives
     mended 21 (encode Rows (run 2 5 ∷ [])) 2 (0 ∷ 2 ∷ [])
+    ∷ [])
+    (run 2 5 ∷ [])
+    -- a reversed range selects nothing and earns nothing; a strict set frees too; a build keeps nothing; a copy is shifted to the right
+    ∷ says 4 (
+    build (run 2 3 ∷ run 8 8 ∷ []) gives done
+    ∷ select (from 8) (upto 2) true 0 gives position None
+    ∷ set_strict (from 8) (upto 9) false gives number 1
+    ∷ build (run 5 6 ∷ []) gives done
+    ∷ tally Unbounded Unbounded true gives tallied 2 1
+    ∷ shifted 2 false (having (run 4 7 ∷ [])) gives done
     ∷ [])
     (run 2 5 ∷ [])
     ∷ []
