@@ -22,7 +22,8 @@
 # make bench-growth       how many instructions it takes, at four capacities (needs valgrind)
 # make bench-aged-calls   how many instructions a frame takes on such stores, and the soundness check in it (needs valgrind)
 # make bench-calls        how many instructions a call takes in a frame, and the soundness check with one world and sixteen (needs valgrind)
-.PHONY: run test lib prove listset replay host differential differential-long conformance pack-mutants bench bench-store bench-gaps bench-maps bench-editions bench-mending bench-grid bench-why bench-heights bench-aged bench-aged-calls bench-soundness bench-growth bench-calls
+# make bench-singles      how many instructions a single call takes, its soundness check with it (needs valgrind)
+.PHONY: run test lib prove listset replay host differential differential-long conformance pack-mutants bench bench-store bench-gaps bench-maps bench-editions bench-mending bench-grid bench-why bench-heights bench-aged bench-aged-calls bench-soundness bench-growth bench-calls bench-singles
 ARCHIVE := target/lib/libvizturel.a
 HEADER := target/include/vizturel.h
 BENCH_STORE := target/lib/libbench_store.a
@@ -120,4 +121,11 @@ bench-calls: $(ARCHIVE)
 	for c in 128 1100 11000; do \
 	    runs=$$((c == 128 ? 100 : c * 10 / 11)); \
 	    echo "| C = $$c | $$(count set $$c $$runs 0 1) with one world | $$(count set $$c $$runs 0 16) with sixteen |"; \
+	done
+bench-singles: $(ARCHIVE)
+	gcc -O2 -Wall -Wextra -Iinclude -o target/bench-singles bench/singles.c $(ARCHIVE)
+	@for kind in get run_at find tally select gap draw_front fill count_rect eq set flip shift set_rect combine not shifted build load mend read_map write write_map deepest; do \
+	    for pool in "16 10" "1100 1000"; do \
+	        valgrind --tool=callgrind --callgrind-out-file=/dev/null --toggle-collect=asked target/bench-singles $$kind $$pool 2>&1 | awk '/Collected/ { printf "%.0f ", $$NF / 100 }'; \
+	    done | awk -v kind=$$kind '{ printf "| %s | %s | %s |\n", kind, $$1, $$2 }'; \
 	done
