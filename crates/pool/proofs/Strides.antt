@@ -1,8 +1,9 @@
 -- The free chain followed in strides of 64 links: whether it fits is decided by the links left. Assumes nothing.
 use Rattle.pool.proofs.Base.{◌≡◌, ℕ, zero, suc, ◌+◌, ◌-◌, ◌*◌, ◌/◌, ◌%◌, ◌<◌, ◌≤◌, Bool, true, false, ◌&&◌, List, sym, refl, ap, ◌∙◌, arith, bool_byte, one_if, Node, cell_at, free_b}
-use Rattle.pool.proofs.Base.{chain_b, along_of, falls}
+use Rattle.pool.proofs.Base.{chain_b, along_of, falls, nat_tests}
 use Rattle.std.proofs.Common.{if◌then◌else◌, nat_lt, ◌==◌}
 use Rattle.pool.specs.Decision.{stride}
+use Rattle.pool.proofs.Tests.{free-out}
 use Rattle.pool.proofs.Truths.{byte-one, byte-small}
 
 -- ---- following links
@@ -55,6 +56,22 @@ chain-stride c w k more =
     ∙ ap (λ (n : ℕ). chain_b n w (along_of 63 w k)) (omega arith) ∙ chain-along 1 (c - 65) w (along_of 63 w k)
     ∙ ap (λ (n : ℕ). chain_b n w (stride w k)) (omega arith)
 
+-- a node that leads to itself, or that is not free, leads to no end
+chain-stays : (d : ℕ) (w : List ℕ) (k : ℕ) → along_of 1 w k ≡ k → chain_b (suc d) w k ≡ false
+unfolding along_of chain_b
+chain-stays d w k e = chain-first (suc d) d w k refl ∙ go (free_b w k) refl e
+  where
+    m : ℕ
+    m = (cell_at w k).left
+
+    round : (n : ℕ) → free_b w k ≡ true → m ≡ k → chain_b n w m ≡ false
+    round zero f t = rw (t) (let some = (free-out w k f).some in grind (arith, nat_tests))
+    round (suc n) f t = ap (chain_b (suc n) w) t ∙ chain-first (suc n) n w k refl ∙ rw (f) (round n f t)
+
+    go : (b : Bool) → free_b w k ≡ b → (if b then m else k) ≡ k → (b && chain_b d w m) ≡ false
+    go true f t = round d f t
+    go false f t = refl
+
 -- and what is counted of the strides left
 falls-more : (s : ℕ) (w : List ℕ) (k : ℕ) → 0 < s → falls s w k ≡ one_if (nat_lt (stride w k) (along_of 63 w k)) + falls (s - 1) w (stride w k)
 unfolding falls
@@ -94,6 +111,12 @@ module _ {w : List ℕ} {c k i l b : ℕ} (f : Following w c k i l b) where
         few = omega (arith, f.few, back, byte-small (nat_lt (stride w l) (along_of 63 w l)));
       })
 
+  -- one does not, or leads nowhere else
+  pub chain-broken : {m n : ℕ} → i < (c - 1) / 64 → m ≡ along_of 63 w l → n ≡ along_of 1 w m → n ≡ m → chain_b c w k ≡ false
+  chain-broken {m} more em en stays =
+      sym f.chain ∙ ap (λ (d : ℕ). chain_b d w l) (omega arith) ∙ chain-along 63 (c - 64 * i - 64) w l
+      ∙ ap (chain_b (suc (c - 64 * i - 64)) w) (sym em) ∙ chain-stays (c - 64 * i - 64) w m (sym en ∙ stays)
+
   -- all did: the last link decides
   pub chain-last : i ≡ (c - 1) / 64 → 0 < c → {m : ℕ} → m ≡ along_of ((c - 1) % 64) w l → chain_b c w k ≡ (free_b w m && (cell_at w m).left == 0)
   unfolding chain_b
@@ -108,4 +131,4 @@ module _ {w : List ℕ} {c k i l b : ℕ} (f : Following w c k i l b) where
 
 pub ruleset along_rules = (along-stays, along-more, along-end)
 
-pub ruleset following = (following-none, following-more, chain-last, all-counted)
+pub ruleset following = (following-none, following-more, chain-broken, chain-last, all-counted)

@@ -287,7 +287,7 @@ fn along(words: &[u64], link: u64, n: u64) -> u64
 }
 
 // How worn the chain from `head` is, if exactly `count` links lead over free nodes to 0. It goes in strides of 64 links, looks at the last link
-// of each, and counts those that lead back: to look at every link takes a quarter more instructions.
+// of each, and counts those that lead back: to look at every link takes a quarter more instructions. A stride that gets no further ends it.
 #[tactic(auto, using(std::proofs::lemmas::Bool::Decides::nat_tests, crate::proofs::Strides::following), unfolding(crate::specs::Decision::chain_of, crate::specs::Decision::chain_b, crate::specs::Decision::falls))]
 fn chain_fits(words: &[u64], head: u64, count: u64) -> Option<u64>
     ensures { result ≡ chain_of count words.now head }
@@ -301,6 +301,9 @@ fn chain_fits(words: &[u64], head: u64, count: u64) -> Option<u64>
     for _ in 0..before / 64 {
         let last = along(words, link, 63);
         link = along(words, last, 1);
+        if link == last {
+            return None;
+        }
         back += u64::from(link < last);
     }
     let last = along(words, link, before % 64);
@@ -310,7 +313,8 @@ fn chain_fits(words: &[u64], head: u64, count: u64) -> Option<u64>
     Some(back)
 }
 
-// Whether a tree hangs at the root of a world, and the world has its sums and its bounds; an empty one has offset 0.
+// Whether a tree hangs at the root of a world, and the world has its sums and its bounds; an empty one has offset 0. The sums come before the tree:
+// where they are wrong, no tree is walked.
 #[tactic(auto, using(std::proofs::lemmas::Bool::Decides::nat_tests, crate::proofs::Bounded::rooted), unfolding(crate::specs::Decision::world_b))]
 fn world_fits(words: &[u64], h: World) -> bool
     requires { Room words.now 0 }
@@ -320,17 +324,16 @@ fn world_fits(words: &[u64], h: World) -> bool
         return false;
     }
     let v = below(words, h.root);
-    if v.height > Store::MAX_HEIGHT || !tree_fits(words, h.root, h.tag, 0, u64::MAX) {
+    if v.height > Store::MAX_HEIGHT
+        || h.ones != v.ones
+        || h.runs != v.runs
+        || !tree_fits(words, h.root, h.tag, 0, u64::MAX) {
         return false;
     }
     let set = Set::of(words, h.root, h.offset);
     let first = crate::bounds::first_held(&set);
     let last = crate::bounds::last_held(&set);
-    h.ones == v.ones
-        && h.runs == v.runs
-        && h.first == first.0
-        && h.last == last.0
-        && (h.root != 0 || h.offset == 0)
+    h.first == first.0 && h.last == last.0 && (h.root != 0 || h.offset == 0)
 }
 
 // How worn the free chain from `free` is, if of n nodes the trees have `runs`, and the others are that chain.
