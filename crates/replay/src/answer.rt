@@ -1,5 +1,6 @@
 // What the calls answer, as text.
-use crate::line::{Element, Lent};
+use crate::line::Lent;
+use arrayvec::ArrayVec;
 use model::{Count, Drawn, Listing, Mended, Refusal, Run, Tally};
 use std::{fmt, io};
 
@@ -15,10 +16,10 @@ pub enum Answer {
     Found(Option<u64>),
     Listing(Listing),
     Drawn(Drawn),
-    Cleared(u64, Vec<u8>),
-    Written(usize, Vec<u8>),
-    Mended(usize, Vec<u8>, usize, Vec<u8>),
-    Worded(usize, Vec<u64>),
+    Cleared(u64, ArrayVec<u8, 1024>),
+    Written(usize, ArrayVec<u8, 1029>),
+    Mended(usize, ArrayVec<u8, 1029>, usize, ArrayVec<u8, 1029>),
+    Worded(usize, ArrayVec<u64, 128>),
 }
 
 pub type Reply = Result<Answer, Refusal>;
@@ -77,6 +78,25 @@ impl From<Drawn> for Answer {
     }
 }
 
+// How many elements of a lent slice a call has written, and the whole slice.
+#[derive(Drop)]
+pub struct Wrote<T, const N: usize> {
+    written: usize,
+    whole: ArrayVec<T, N>,
+}
+
+impl From<Wrote<u8, 1029>> for Answer {
+    fn from(f: Wrote<u8, 1029>) -> Answer {
+        Answer::Written(f.written, f.whole)
+    }
+}
+
+impl From<Wrote<u64, 128>> for Answer {
+    fn from(f: Wrote<u64, 128>) -> Answer {
+        Answer::Worded(f.written, f.whole)
+    }
+}
+
 // What a call of the library gives.
 pub trait Outcome {
     fn reply(self) -> Reply;
@@ -91,26 +111,30 @@ impl<T: Into<Answer>> Outcome for Result<T, Refusal> {
     }
 }
 
-// Has a call write into a lent slice, and tells it.
-pub fn filled<T: Element, F: FnOnce(&mut [T]) -> Result<usize, Refusal>>(
-    lent: Lent<T>,
+// Has a call write into a lent slice.
+pub fn filled<T: Drop, const N: usize, F: FnOnce(&mut [T]) -> Result<usize, Refusal>>(
+    lent: Lent<T, N>,
     call: F,
-) -> Reply
+) -> Result<Wrote<T, N>, Refusal>
     requires { F.IsAlwaysCallable call }
 {
     let mut whole = lent.0;
     let written = call(whole.as_mut_slice())?;
-    Ok(T::told(written, whole))
+    Ok(Wrote { written, whole })
 }
 
 // A map whose spare bits were cleared.
 // Not by `filled`: a map is changed where it stands and told with a number of bits, and of `mended` there are two slices.
-pub fn cleared(n: Result<u64, Refusal>, map: Vec<u8>) -> Reply {
+pub fn cleared(n: Result<u64, Refusal>, map: ArrayVec<u8, 1024>) -> Reply {
     Ok(Answer::Cleared(n?, map))
 }
 
 // Both slices of a mended set.
-pub fn mended(m: Result<Mended, Refusal>, out: Vec<u8>, report: Vec<u8>) -> Reply {
+pub fn mended(
+    m: Result<Mended, Refusal>,
+    out: ArrayVec<u8, 1029>,
+    report: ArrayVec<u8, 1029>,
+) -> Reply {
     let m = m?;
     Ok(Answer::Mended(m.bytes, out, m.report, report))
 }

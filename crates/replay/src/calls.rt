@@ -5,6 +5,7 @@
 use crate::answer;
 use crate::answer::{Outcome, Reply};
 use crate::line::{Argument, Bytes, Fault, Lent, Pairs, Tokens};
+use arrayvec::ArrayVec;
 use interval_bit_set::{bytes, cells, change, mend, report, write};
 use model::{Edition, Listing};
 
@@ -28,13 +29,19 @@ pub fn clear_map(line: Tokens<'_>) -> Result<Reply, Fault> {
 }
 
 pub fn convert(line: Tokens<'_>) -> Result<Reply, Fault> {
-    make(line, |(set, out): (Bytes<1029>, Lent<u8>)| {
+    make(line, |(set, out): (Bytes<1029>, Lent<u8, 1029>)| {
         answer::filled(out, |out| bytes::convert(set.0.as_slice(), out))
     })
 }
 
 // ---- changes
-fn mend(store: &mut [u64], world: u64, set: &[u8], mut out: Vec<u8>, mut notes: Vec<u8>) -> Reply {
+fn mend(
+    store: &mut [u64],
+    world: u64,
+    set: &[u8],
+    mut out: ArrayVec<u8, 1029>,
+    mut notes: ArrayVec<u8, 1029>,
+) -> Reply {
     let m = mend::mend(store, world, set, out.as_mut_slice(), notes.as_mut_slice());
     answer::mended(m, out, notes)
 }
@@ -59,13 +66,13 @@ pub fn call_named(
         ),
         "mend" => make(
             line,
-            |(set, out, notes): (Bytes<1029>, Lent<u8>, Lent<u8>)| {
+            |(set, out, notes): (Bytes<1029>, Lent<u8, 1029>, Lent<u8, 1029>)| {
                 mend(store, world, set.0.as_slice(), out.0, notes.0)
             },
         ),
         "build" => make(
             line,
-            |runs: Pairs<64>| bytes::from_sorted_words(store, world, runs.0.as_slice()),
+            |runs: Pairs<128>| bytes::from_sorted_words(store, world, runs.0.as_slice()),
         ),
         "read_map" => make(line, |(base, window, map): (u64, u64, Bytes<1024>)| {
             bytes::read_map(store, world, base, window, map.0.as_slice())
@@ -98,16 +105,16 @@ fn report_named(store: &[u64], world: u64, name: &str, line: Tokens<'_>) -> Resu
             |(base, window)| report::fill(store, world, base, window),
         ),
         "count_rect" => make(line, |q| cells::count_rect(store, world, q)),
-        "survey" => make(line, |(row, column, k, out): (u64, u64, u64, Lent<u64>)| {
+        "survey" => make(line, |(row, column, k, out): (u64, u64, u64, Lent<u64, 128>)| {
             answer::filled(out, |out| cells::survey(store, world, row, column, k, out))
         }),
-        "write_set" => make(line, |(edition, out): (u64, Lent<u8>)| {
+        "write_set" => make(line, |(edition, out): (u64, Lent<u8, 1029>)| {
             answer::filled(
                 out,
                 |out| write::write_set(store, world, Edition::from(edition), out),
             )
         }),
-        "write_map" => make(line, |(base, window, out): (u64, u64, Lent<u8>)| {
+        "write_map" => make(line, |(base, window, out): (u64, u64, Lent<u8, 1029>)| {
             answer::filled(out, |out| write::write_map(store, world, base, window, out))
         }),
         _ => Err(Fault::NotUnderstood),

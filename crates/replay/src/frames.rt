@@ -2,6 +2,7 @@
 use crate::answer;
 use crate::answer::{Outcome, Words};
 use crate::line::{Fault, Tokens};
+use arrayvec::ArrayVec;
 use std::io;
 
 // A frame of which not all lines are there yet: its store, how many calls it has, its records so far, and the room for their answers.
@@ -9,23 +10,24 @@ use std::io;
 pub struct Frame {
     pub store: u64,
     calls: usize,
-    records: Vec<u64>,
-    answers: Vec<u64>,
+    records: ArrayVec<u64, 512>,
+    answers: ArrayVec<u64, 512>,
 }
 
 impl Frame {
     // Takes a frame's own line, after its name.
     pub fn begin(mut line: Tokens<'_>) -> Result<Frame, Fault> {
-        let alloc = line.alloc;
         let store = line.at_most(3)?;
         let calls = line.at_most(64)?;
         let room = line.at_most(64)?;
         line.end()?;
+        let mut answers = ArrayVec::from([0u64; 512]);
+        answers.truncate(8 * room as usize);
         Ok(Frame {
             store,
             calls: calls as usize,
-            records: Vec::new(alloc),
-            answers: vec![in alloc; 0u64; 8 * room as usize]?,
+            records: ArrayVec::new(),
+            answers,
         })
     }
 
@@ -35,7 +37,7 @@ impl Frame {
             return Err(Fault::NotUnderstood);
         }
         let words: [u64; 8] = line.all()?;
-        self.records.extend_from_slice(&words)?;
+        self.records.try_extend_from_slice(&words)?;
         Ok(())
     }
 
@@ -49,9 +51,9 @@ impl Frame {
     }
 
     // Makes its calls, and answers its lines. None of its records is answered where it is refused.
-    pub fn serve(self, rt: &impl Print, store: &mut [u64]) -> io::Result<()> {
-        let mut answers = self.answers;
-        let reply = frame::frame(store, self.records.as_slice(), answers.as_mut_slice()).reply();
+    pub fn serve(&mut self, rt: &impl Print, store: &mut [u64]) -> io::Result<()> {
+        let answers = self.answers.as_mut_slice();
+        let reply = frame::frame(store, self.records.as_slice(), answers).reply();
         answer::tell(rt, &reply)?;
         if reply.is_err() {
             return answer::repeat(rt, "-", self.calls);

@@ -1,9 +1,8 @@
 // The words of a line, one space apart, and what a call takes of them. A word that is not of its form is an error, and so is one too many.
-ghost use Rattle.std.specs.Prelude.{◌≤◌, IfOk};
+ghost use Rattle.std.specs.Prelude.{◌<◌, ◌≤◌, IfOk, IfSome};
 
-use crate::answer::Answer;
+use arrayvec::{ArrayVec, CapacityError};
 use model::{Bound, Listing, Operation, Rect};
-use std::alloc::{AllocError, AllocFailed, Global};
 use std::io;
 use std::str::Split;
 
@@ -20,29 +19,22 @@ impl From<io::Error> for Fault {
     }
 }
 
-impl From<AllocError> for Fault {
-    fn from(e: AllocError) -> Fault {
-        Fault::Io(io::Error::from(e))
-    }
-}
-
-impl<T: Drop> From<AllocFailed<T>> for Fault {
-    fn from(e: AllocFailed<T>) -> Fault {
-        Fault::from(AllocError::from(e))
+// More than there is room for is no line's.
+impl<T: Drop> From<CapacityError<T>> for Fault {
+    fn from(_full: CapacityError<T>) -> Fault {
+        Fault::NotUnderstood
     }
 }
 
 // The words of a line that were not read yet.
 #[derive(Drop)]
 pub struct Tokens<'a> {
-    pub alloc: Global,
     rest: Split<'a, char>,
 }
 
 impl<'a> Tokens<'a> {
-    pub fn new(alloc: Global, line: &'a str) -> Tokens<'a> {
+    pub fn new(line: &'a str) -> Tokens<'a> {
         Tokens {
-            alloc,
             rest: line.split(' '),
         }
     }
@@ -178,68 +170,58 @@ impl Argument for Place {
     }
 }
 
-// As many pairs of numbers as the first number says, which is at most another.
+// As many pairs of numbers as the first number says, with room for so many words.
 #[derive(Drop)]
-pub struct Pairs<const MOST: u64>(pub Vec<u64>);
+pub struct Pairs<const WORDS: usize>(pub ArrayVec<u64, WORDS>);
 
-impl<const MOST: u64> Argument for Pairs<MOST> {
-    fn read(line: &mut Tokens<'_>) -> Result<Pairs<MOST>, Fault> {
-        let mut all = Vec::new(line.alloc);
-        for _ in 0..line.at_most(MOST)? {
-            all.push(u64::read(line)?)?;
-            all.push(u64::read(line)?)?;
+impl<const WORDS: usize> Argument for Pairs<WORDS> {
+    fn read(line: &mut Tokens<'_>) -> Result<Pairs<WORDS>, Fault> {
+        let mut all = ArrayVec::new();
+        for _ in 0..line.at_most(WORDS as u64 / 2)? {
+            all.try_push(u64::read(line)?)?;
+            all.try_push(u64::read(line)?)?;
         }
         Ok(Pairs(all))
     }
 }
 
 // ---- lent slices
-// What a lent slice is made of: how many there may be, what each is before the call, and how the slice is told when some were written.
-pub trait Element: Copy {
-    const MOST: u64;
-
+// What a lent slice is made of before a call writes into it.
+pub trait Element: Copy + Default {
     const UNWRITTEN: Self;
-
-    fn told(written: usize, whole: Vec<Self>) -> Answer;
 }
 
 impl Element for u8 {
-    const MOST: u64 = 1029;
-
     const UNWRITTEN: u8 = 0xee;
-
-    fn told(written: usize, whole: Vec<u8>) -> Answer {
-        Answer::Written(written, whole)
-    }
 }
 
 impl Element for u64 {
-    const MOST: u64 = 128;
-
     const UNWRITTEN: u64 = 0xeeeeeeeeeeeeeeee;
-
-    fn told(written: usize, whole: Vec<u64>) -> Answer {
-        Answer::Worded(written, whole)
-    }
 }
 
-// A slice of so many elements to write into.
+// A slice of at most N elements to write into.
 #[derive(Drop)]
-pub struct Lent<T>(pub Vec<T>);
+pub struct Lent<T, const N: usize>(pub ArrayVec<T, N>);
 
-impl<T: Element> Argument for Lent<T> {
-    fn read(line: &mut Tokens<'_>) -> Result<Lent<T>, Fault> {
-        let n = line.at_most(T::MOST)?;
-        Ok(Lent(vec![in line.alloc; T::UNWRITTEN; n as usize]?))
+impl<T: Element + Drop, const N: usize> Argument for Lent<T, N> {
+    fn read(line: &mut Tokens<'_>) -> Result<Lent<T, N>, Fault> {
+        let n = line.at_most(N as u64)?;
+        let mut all = ArrayVec::new();
+        for _ in 0..n {
+            all.try_push(T::UNWRITTEN)?;
+        }
+        Ok(Lent(all))
     }
 }
 
 // ---- bytes
 // At most so many bytes, two hexadecimal digits for each, or `-` for none.
 #[derive(Drop)]
-pub struct Bytes<const MOST: usize>(pub Vec<u8>);
+pub struct Bytes<const MOST: usize>(pub ArrayVec<u8, MOST>);
 
-fn hex_digit(b: u8) -> Option<u8> {
+fn hex_digit(b: u8) -> Option<u8>
+    ensures { IfSome result (λ d. d < 16) }
+{
     match b {
         b'0'..=b'9' => Some(b - b'0'),
         b'a'..=b'f' => Some(b - b'a' + 10),
@@ -256,7 +238,7 @@ fn octet(pair: &[u8]) -> Option<u8> {
 
 impl<const MOST: usize> Argument for Bytes<MOST> {
     fn read(line: &mut Tokens<'_>) -> Result<Bytes<MOST>, Fault> {
-        let mut all = Vec::new(line.alloc);
+        let mut all = ArrayVec::new();
         let digits = line.word()?.as_bytes();
         if digits == b"-".as_slice() {
             return Ok(Bytes(all));
@@ -265,7 +247,7 @@ impl<const MOST: usize> Argument for Bytes<MOST> {
             return Err(Fault::NotUnderstood);
         }
         for pair in digits.chunks(2) {
-            all.push(octet(pair).ok_or(Fault::NotUnderstood)?)?;
+            all.try_push(octet(pair).ok_or(Fault::NotUnderstood)?)?;
         }
         Ok(Bytes(all))
     }

@@ -2,25 +2,26 @@
 use crate::answer::{Answer, Outcome, Reply};
 use crate::line::{Argument, Fault, Lent, Pairs, Place, Tokens};
 use crate::{answer, calls};
+use arrayvec::ArrayVec;
 use interval_bit_set::{join, make, measure};
 use model::Operation;
-use std::alloc::Global;
+
+// The words of a store: at most as many as a pool of capacity 64 has.
+type Store = ArrayVec<u64, 904>;
 
 #[derive(Drop)]
 pub struct Stores {
-    alloc: Global,
-    all: [Vec<u64>; 4],
+    all: [Store; 4],
 }
 
 impl Stores {
-    pub fn new(alloc: Global) -> Stores {
+    pub fn new() -> Stores {
         Stores {
-            alloc,
             all: [
-                Vec::new(alloc),
-                Vec::new(alloc),
-                Vec::new(alloc),
-                Vec::new(alloc),
+                ArrayVec::new(),
+                ArrayVec::new(),
+                ArrayVec::new(),
+                ArrayVec::new(),
             ],
         }
     }
@@ -35,7 +36,7 @@ impl Stores {
     }
 
     // The array is lent as a slice first: it has no proof as an array, since its elements own memory.
-    pub fn store_mut(&mut self, s: u64) -> Result<&mut Vec<u64>, Fault> {
+    pub fn store_mut(&mut self, s: u64) -> Result<&mut Store, Fault> {
         let all = &mut self.all;
         let all = &mut all[..];
         all.get_mut(s as usize).ok_or(Fault::NotUnderstood)
@@ -47,15 +48,17 @@ impl Stores {
     }
 
     // A copy of a store, which can be read while another is written, or the same.
-    fn copy(&self, s: u64) -> Result<Vec<u64>, Fault> {
-        Ok(Vec::from_slice(self.alloc, self.store(s)?)?)
+    fn copy(&self, s: u64) -> Result<Store, Fault> {
+        Ok(ArrayVec::try_from(self.store(s)?)?)
     }
 
     // Lends a store words, each 0.
     fn lend(&mut self, s: u64, mut line: Tokens<'_>) -> Result<Reply, Fault> {
         let capacity = line.at_most(64)?;
         line.end()?;
-        *self.store_mut(s)? = vec![in self.alloc; 0u64; 8 * (capacity as usize + 49)]?;
+        let mut words = ArrayVec::from([0u64; 904]);
+        words.truncate(8 * (capacity as usize + 49));
+        *self.store_mut(s)? = words;
         Ok(Ok(Answer::Done))
     }
 
@@ -149,18 +152,18 @@ fn spoil(store: &mut [u64], line: Tokens<'_>) -> Result<Reply, Fault> {
 fn new(store: &mut [u64], line: Tokens<'_>) -> Result<Reply, Fault> {
     calls::make(
         line,
-        |limits: Pairs<32>| make::new(store, limits.0.as_slice()),
+        |limits: Pairs<64>| make::new(store, limits.0.as_slice()),
     )
 }
 
 fn deepest(store: &[u64], line: Tokens<'_>) -> Result<Reply, Fault> {
-    calls::make(line, |(height, out): (u64, Lent<u64>)| {
+    calls::make(line, |(height, out): (u64, Lent<u64, 128>)| {
         answer::filled(out, |out| measure::deepest(store, height, out))
     })
 }
 
 fn why_full(store: &[u64], line: Tokens<'_>) -> Result<Reply, Fault> {
-    calls::make(line, |(out, bounds): (Lent<u64>, Pairs<64>)| {
+    calls::make(line, |(out, bounds): (Lent<u64, 128>, Pairs<128>)| {
         answer::filled(
             out,
             |out| measure::why_full(store, bounds.0.as_slice(), out),
