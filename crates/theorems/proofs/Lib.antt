@@ -17,6 +17,7 @@ pub mod SurveysHalving
 pub mod SurveysParting
 pub mod Surveys
 pub mod Heights
+pub mod Framing
 pub mod Theorems
 pub mod Moves
 pub mod Plays

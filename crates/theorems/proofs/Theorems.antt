@@ -13,6 +13,7 @@ use Rattle.theorems.specs.Theorems.{
   Equal-bytes,
   Room-suffices,
   Equal-pools,
+  Framed-wrote,
   Floor-reached,
   Sum-alone,
   Sum-alone-lists,
@@ -39,6 +40,7 @@ use Rattle.theorems.specs.Theorems.{
 }
 use Rattle.theorems.proofs.Writing.{bytes-few, written_all, written-alike}
 use Rattle.theorems.proofs.Plays.{play-alike}
+use Rattle.theorems.proofs.Framing.{all-written}
 use Rattle.theorems.proofs.Floors.{reaches-floor, mend-reaches-floor}
 use Rattle.theorems.proofs.Neighbours.{alike, all-alike}
 use Rattle.theorems.proofs.Forms.{met-alike, writes-alike}
@@ -54,6 +56,9 @@ use Rattle.pool.proofs.Heights.{world-lower}
 
 pub equal-bytes : Equal-bytes
 equal-bytes e w i v j bs cs W X = written-alike W X
+
+pub framed-wrote : Framed-wrote
+framed-wrote w calls out w' out' F = all-written F
 
 pub room-suffices : Room-suffices
 room-suffices w i e out v a S l h m =

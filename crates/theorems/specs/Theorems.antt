@@ -31,6 +31,9 @@ use Rattle.why_full.specs.Placing.{Climbing}
 use Rattle.interval_bit_set.specs.Met.{Site, fed_at, fed_of, Leaves, Met, Measured}
 use Rattle.interval_bit_set.specs.Out.{WritesOut}
 use Rattle.interval_bit_set.specs.Handles.{Handles}
+use Rattle.flat.specs.Records.{records_of}
+use Rattle.frame.specs.Frame.{Framed}
+use Rattle.frame.specs.Records.{calls_of}
 use Rattle.theorems.specs.Determinism.{PlayAlike, Loads}
 use Rattle.theorems.specs.Beside.{Beside}
 use Rattle.theorems.specs.Clearing.{old_reading, WritesMap}
@@ -70,6 +73,13 @@ Room-suffices =
 abbrev pub Equal-pools : Type 0
 Equal-pools =
     (w v : List ℕ) → Sound w → Sound v → capacity w ≡ capacity v → worlds_of w ≡ worlds_of v → PlayAlike w v
+
+-- a frame that is done, on whatever pool, has written the records of the plain model's answers to its calls, one after another, into the front
+-- of its slice
+abbrev pub Framed-wrote : Type 0
+Framed-wrote =
+    (w calls out w' out' : List ℕ)
+    → Framed w calls out (gave done) w' out' → out' ≡ into_front (records_of (answers (capacity w) (worlds_of w) (calls_of calls))) out
 
 -- ---- worlds in one pool
 -- a world may always reach its floor: in a sound pool no call that would be done if no number of runs were too many, and

@@ -4,7 +4,7 @@
 
 ghost use Rattle.theorems.specs.Determinism.{Determinism};
 ghost use Rattle.theorems.specs.Tables.{Cases-hold, Worked-hold, Columns-back};
-ghost use Rattle.theorems.specs.Theorems.{Equal-bytes, Room-suffices, Equal-pools, Floor-reached, Sum-alone, Sum-alone-lists};
+ghost use Rattle.theorems.specs.Theorems.{Equal-bytes, Room-suffices, Equal-pools, Framed-wrote, Floor-reached, Sum-alone, Sum-alone-lists};
 ghost use Rattle.theorems.specs.Theorems.{Cleared-reads, Cleared-once, Written-stays, Forms-agree, Fill-none, Fill-full};
 ghost use Rattle.theorems.specs.Theorems.{Converted-back, Converted-loads, Loads-converts, Old-reader, Mended-right, Mended-loads, Mended-floor};
 ghost use Rattle.theorems.specs.Theorems.{Survey-parts, Deepest-height, Deepest-room, Deepest-shortest, Why-smallest, Why-none, Why-exact};
@@ -18,6 +18,7 @@ ghost use Rattle.theorems.specs.Swaps.{Flips-swap, Flip-undone, Shifts-swap, Set
 pub fn whole_plays()
     ensures determinism { Determinism }
     ensures equal_pools { Equal-pools }
+    ensures framed_wrote { Framed-wrote }
 {}
 
 /// Worlds that share a pool.
