@@ -19,6 +19,8 @@ use model::{Count, Refusal};
 use pool::layout::NODES;
 use run_lists::{RunList, Words};
 
+pub use crate::mend::mend;
+
 // Gives a world the runs of a list, which are in order, whatever it held, if its allowance admits so many.
 fn put<L: RunList + Copy>(words: &mut [u64], world: u64, runs: L) -> Result<(), Refusal>
     requires readable { Readable words.old world }
