@@ -71,7 +71,7 @@
  * kinds as numbers, in records or stored lists, writes 3 for no bound.
  *
  * Link libvizturel.a, for x86-64 Linux: `make lib` writes it to target/lib/, and this header to target/include/. Take both from one build: structs
- * and signatures are that build's. Of a C library it needs memset, memmove and memcpy alone. What is exported is at the end of this header, under names
+ * and signatures are that build's. Of a C library it needs memset and memmove alone. What is exported is at the end of this header, under names
  * of its own (vizturel_abi_set), and takes numbers, pointers and counts alone; the calls are inline functions over that. So whoever supplies another
  * library exports those names, and other languages call them. The header is C99 and C++11, and later ones. docs/CALLS.md has every call with its cost.
  */
