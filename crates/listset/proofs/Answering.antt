@@ -84,10 +84,11 @@ module _ (bs : List ℕ) (w : List ℕ) (z : capacity w ≡ 950) {w₁ w₂ : Li
 
   -- by what `load` answered
   module _ (c : OrRefusal Unit) (l : Met w₁ 0 (Call.load bs) (completed_answer c) w₂) where
-    pub done-told : c ≡ Ok tt → Openable w₂ 0 × (lines (loaded bs) ≡ set_lines (held_by w₂ 0))
+    pub done-told : c ≡ Ok tt → Openable w₂ 0 × (capacity w₂ ≡ 950) × (lines (loaded bs) ≡ set_lines (held_by w₂ 0))
     done-told e =
         let H = load-holds l in (
           record { sound = H.sound; named = H.sound.some },
+          H.sized,
           lines-done bs (ap completed_answer (sym e) ∙ load-answer l) (only-held H),
         )
 
