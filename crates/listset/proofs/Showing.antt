@@ -6,7 +6,7 @@ use Rattle.std.specs.Prelude.{Option, None, Some, Result, Ok, Err, IfSome}
 use Rattle.std.specs.Io.KnownBytes.{Appends}
 use Rattle.model.proofs.Numbers.{split}
 use Rattle.listset.specs.declared.Failure.{Failure}
-use Rattle.listset.specs.declared.Failure.TheVariants.{Input, Memory, Output}
+use Rattle.listset.specs.declared.Failure.TheVariants.{Input, Output}
 use Rattle.listset.specs.Text.{printed}
 use Rattle.listset.specs.Shown.{Shows, Lists}
 use Rattle.listset.proofs.Answering.{too_long}
@@ -25,5 +25,4 @@ pub lists-read : (left old new : Option (List ℕ)) (bs : List ℕ) (r : Result 
 lists-read None old new bs (Ok u) e s = tt
 lists-read (Some all) old new bs (Ok u) e s = subst (Appends old new) (ap printed e ∙ printed-front all) s
 lists-read left old new bs (Err Input) e s = absurd s
-lists-read left old new bs (Err Memory) e s = s
 lists-read left old new bs (Err Output) e s = s
