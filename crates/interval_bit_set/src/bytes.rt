@@ -14,12 +14,11 @@ ghost use Rattle.interval_bit_set.specs.Met.{Readable, Met};
 ghost use Rattle.interval_bit_set.specs.Handles.{Handles};
 
 use crate::checked::Pool;
+pub use crate::mend::mend;
 use maps::window::{Map, Window};
 use model::{Count, Refusal};
 use pool::layout::NODES;
 use run_lists::{RunList, Words};
-
-pub use crate::mend::mend;
 
 // Gives a world the runs of a list, which are in order, whatever it held, if its allowance admits so many.
 fn put<L: RunList + Copy>(words: &mut [u64], world: u64, runs: L) -> Result<(), Refusal>

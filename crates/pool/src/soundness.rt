@@ -327,7 +327,8 @@ fn world_fits(words: &[u64], h: World) -> bool
     if v.height > Store::MAX_HEIGHT
         || h.ones != v.ones
         || h.runs != v.runs
-        || !tree_fits(words, h.root, h.tag, 0, u64::MAX) {
+        || !tree_fits(words, h.root, h.tag, 0, u64::MAX)
+    {
         return false;
     }
     let set = Set::of(words, h.root, h.offset);

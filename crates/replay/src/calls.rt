@@ -105,9 +105,12 @@ fn report_named(store: &[u64], world: u64, name: &str, line: Tokens<'_>) -> Resu
             |(base, window)| report::fill(store, world, base, window),
         ),
         "count_rect" => make(line, |q| cells::count_rect(store, world, q)),
-        "survey" => make(line, |(row, column, k, out): (u64, u64, u64, Lent<u64, 128>)| {
-            answer::filled(out, |out| cells::survey(store, world, row, column, k, out))
-        }),
+        "survey" => make(
+            line,
+            |(row, column, k, out): (u64, u64, u64, Lent<u64, 128>)| {
+                answer::filled(out, |out| cells::survey(store, world, row, column, k, out))
+            },
+        ),
         "write_set" => make(line, |(edition, out): (u64, Lent<u8, 1029>)| {
             answer::filled(
                 out,

@@ -26,4 +26,4 @@ all-written {w} {calls} {out} F =
     let due : List ℕ = records_of (answers (capacity w) (worlds_of w) (calls_of calls)) in
     F.wrote
     ∙ settled (or_else (faults (w ∷ [])) (refusal (output_short when no_room out due ∷ []))) (worlds_of w)
-      (after (capacity w) (worlds_of w) (calls_of calls)) due out F.answered
+    (after (capacity w) (worlds_of w) (calls_of calls)) due out F.answered
