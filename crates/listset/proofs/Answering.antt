@@ -1,5 +1,5 @@
 -- The answer to an input: too long, refused, or the lines of the set that it loads. Assumes nothing.
-use Rattle.std.specs.Prelude.{Some, Ok, Err, IsOk}
+use Rattle.std.specs.Prelude.{None, Some, Ok, Err, IsOk, IfOk, IfErr}
 use Rattle.model.specs.Answers.{OrRefusal}
 use Prim.Native.Nat.{ℕ, ◌≤◌, ◌<◌}
 use mathlib.Core.Path.{◌≡◌, refl, sym, ap, ◌∙◌, subst}
@@ -17,9 +17,13 @@ use Rattle.model.specs.Answers.{completed_answer}
 use Rattle.model.specs.Model.{Outcome, positions_of}
 use Rattle.model.specs.Pools.{world_of, fed_by, holding_at, limits_from, limits_of, empty_worlds, make_by, step, alone}
 use Rattle.pool.specs.Layout.{capacity_of, capacity, held_by, plain_at, worlds_of}
+use Rattle.pool.specs.Soundness.{Sound}
 use Rattle.pool.specs.Settle.{Openable}
 use Rattle.pool.proofs.WorldLists.{opened-world}
-use Rattle.interval_bit_set.specs.Met.{Met, made_of, MakeLeaves, Made}
+use Rattle.pool.proofs.Whole.{sound_b-no}
+use Rattle.interval_bit_set.specs.declared.checked.PoolRef.{PoolRef}
+use Rattle.interval_bit_set.specs.Met.{faults, Met, made_of, MakeLeaves, Made}
+use Rattle.interval_bit_set.proofs.Looking.{short-no}
 use Rattle.interval_bit_set.proofs.Simulation.{Holds, outcome-is, step-holds}
 use Rattle.listset.proofs.Drawing.{granted}
 use Rattle.listset.specs.Text.{too_long_line, refused_line, set_lines, outcome_lines, loaded, printed}
@@ -63,6 +67,19 @@ made_holds : {w w₁ : List ℕ} {a : Answer} → capacity w ≡ 950 → Made w 
 made_holds {w} {w₁} z m =
     let e = subst (MakeLeaves w w₁ (limits_of (0 ∷ 950 ∷ []))) (m.answered ∙ made-answer w z) m.left in
     record { sound = e.sound; sized = ap capacity_of e.long ∙ z; held = e.worlds ∙ made-worlds }
+
+-- ---- its check
+-- a sound pool passes it
+check-quiet : {w : List ℕ} → Sound w → faults (w ∷ []) ≡ None
+check-quiet {w} S = rw (short-no w S.sized, sound_b-no w S) refl
+
+pub check-granted : {T : Type 0} {w : List ℕ} (n : OrRefusal T) → Sound w → IfErr n (λ r. faults (w ∷ []) ≡ Some (refusal_number r)) → IsOk n
+check-granted (Ok p) S e = refl
+check-granted (Err r) S e = let f : None ≡ Some (refusal_number r) = sym (check-quiet S) ∙ e in absurd (cc f)
+
+-- and what was checked is its words
+pub check-told : {w : List ℕ} {n : OrRefusal PoolRef} {p : PoolRef} → IfOk n (λ q. q.words.now ≡ w) → n ≡ Ok p → p.words.now ≡ w
+check-told {w} h e = subst (λ r. IfOk r (λ q. q.words.now ≡ w)) e h
 
 -- ---- the load into it
 -- the positions of the only world of a pool, which was opened

@@ -12,6 +12,7 @@ use Rattle.std.specs.declared.ops.Bound.TheVariants.{Unbounded}
 use Rattle.model.specs.declared.Run.{Run}
 use Rattle.model.specs.declared.Listing.{Listing}
 use Rattle.model.specs.declared.Tally.{Tally}
+use Rattle.model.specs.declared.Drawn.{Drawn}
 use Rattle.model.specs.Numbers.{size, worth}
 use Rattle.model.proofs.Numbers.{split}
 use Rattle.model.specs.Positions.{Positions, runs_in, remaining, past_first, ended, count, run_count, stretches, held_runs, mem}
@@ -22,12 +23,11 @@ use Rattle.model.specs.RunList.{Canon}
 use Rattle.model.proofs.RunList.{canon-weaken, mem-above}
 use Rattle.model.specs.Call.{Call, Result, tallied, listing, drawn, Answer, gave}
 use Rattle.model.specs.Model.{drawn_first}
-use Rattle.model.specs.Answers.{OrRefusal, answer_by, tallied_answer, listed_answer}
+use Rattle.model.specs.Answers.{OrRefusal, answer_by, tallied_answer, listed_answer, drawn_answer}
 use Rattle.pool.specs.Layout.{held_by}
 use Rattle.pool.specs.Settle.{Openable}
 use Rattle.reports.specs.Reports.{Measured}
 use Rattle.listset.specs.Text.{count_lines, run_lines, set_lines}
-use Rattle.interval_bit_set.specs.Lent.{item_answer, Draws}
 use Rattle.interval_bit_set.specs.Met.{Site, Met}
 use Rattle.interval_bit_set.proofs.Meeting.{refused-not, readable, Reports, asks, met}
 
@@ -119,19 +119,25 @@ module _ (w : List ℕ) {i : ℕ} (op : Openable w i) where
         let g : k ≡ record { first = 0; last = size - 1; value = true } = cc in
         ap (remaining (held_by w i)) g
 
-  module _ (n : OrRefusal (Option Run)) {l l' : Listing} (d : Draws Call.draw_front w i l n l') where
+  module _ (n : OrRefusal Drawn) {l : Listing} (m : Met w i (Call.draw_front l) (drawn_answer n) w) where
     pub draw-granted : IsOk n
-    draw-granted = granted _ n (answers (asks refl) d.met)
+    draw-granted = granted _ n (answers (asks refl) m)
 
-    pub draw-told : {o : Option Run} → n ≡ Ok o → MatchOption o (remaining (held_by w i) l ≡ []) (λ r. remaining (held_by w i) l ≡ r ∷ remaining (held_by w i) l')
+    pub draw-told : {d : Drawn} → n ≡ Ok d → MatchOption d.run (remaining (held_by w i) l ≡ []) (λ r. remaining (held_by w i) l ≡ r ∷ remaining (held_by w i) d.rest)
     unfolding drawn_first
-    draw-told {o} e = go (remaining (held_by w i) l) refl
+    draw-told {d} e = go (remaining (held_by w i) l) refl
       where
         P : Positions
         P = held_by w i
 
+        o : Option Run
+        o = d.run
+
+        l' : Listing
+        l' = d.rest
+
         told : gave (drawn o l') ≡ gave (drawn (Positions.first_run (remaining P l)) (past_first l (Positions.first_run (remaining P l))))
-        told = ap (λ r. item_answer r l') (sym e) ∙ answers (asks refl) d.met
+        told = ap drawn_answer (sym e) ∙ answers (asks refl) m
 
         go : (rs : List Run) → remaining P l ≡ rs → MatchOption o (remaining P l ≡ []) (λ r. remaining P l ≡ r ∷ remaining P l')
         go [] f =

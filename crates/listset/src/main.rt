@@ -14,7 +14,8 @@ ghost use Rattle.listset.specs.Put.{Puts};
 ghost use Rattle.listset.specs.Shown.{Shows, Lists};
 
 use arrayvec::{ArrayString, CapacityError};
-use interval_bit_set::{bytes, listing, make, report};
+use interval_bit_set::checked::PoolRef;
+use interval_bit_set::{bytes, make};
 use itoa::Buffer;
 use model::{Bound, Count, Listing, Refusal, Run, Tally};
 use std::io;
@@ -74,58 +75,61 @@ fn put_refused(text: &mut ArrayString<TEXT>, refusal: Refusal) -> Result<(), Cap
     put_number(text, u128::from(u64::from(refusal)), "\n")
 }
 
-// ---- the set: what is reported of world 0 of a sound pool. None of these calls is then refused
-// `Openable` is asked again by each, since each takes the words: a type that keeps it would serve this one pool.
-fn held_tally(words: &[u64]) -> Tally
-    requires { Openable words.now 0 }
-    ensures { Measured (held_by words.now 0) true 0 size result }
+// ---- the set: what is reported of world 0, which was opened, of a pool that was checked. None of these calls is then refused
+fn held_tally(pool: PoolRef<'_>) -> Tally
+    requires { Openable pool.words.now 0 }
+    ensures { Measured (held_by pool.entry.words.now 0) true 0 size result }
 {
-    report::tally(words, 0, Bound::Unbounded, Bound::Unbounded, true).unwrap()
+    pool.tally(0, Bound::Unbounded, Bound::Unbounded, true)
+        .unwrap()
 }
 
-fn all_runs(words: &[u64]) -> Listing
-    requires { Openable words.now 0 }
-    ensures { remaining (held_by words.now 0) result ≡ held_runs (held_by words.now 0) }
+fn all_runs(pool: PoolRef<'_>) -> Listing
+    requires { Openable pool.words.now 0 }
+    ensures { remaining (held_by pool.entry.words.now 0) result ≡ held_runs (held_by pool.entry.words.now 0) }
 {
-    report::ranges(words, 0, Bound::Unbounded, Bound::Unbounded, true).unwrap()
+    pool.ranges(0, Bound::Unbounded, Bound::Unbounded, true)
+        .unwrap()
 }
 
-fn next_run(words: &[u64], left: &mut Listing) -> Option<Run>
-    requires { Openable words.now 0 }
+fn next_run(pool: PoolRef<'_>, left: &mut Listing) -> Option<Run>
+    requires { Openable pool.words.now 0 }
     ensures { MatchOption result
-        (remaining (held_by words.now 0) left.old ≡ [])
-        (λ run. remaining (held_by words.now 0) left.old ≡ run ∷ remaining (held_by words.now 0) left.new) }
+        (remaining (held_by pool.entry.words.now 0) left.old ≡ [])
+        (λ run. remaining (held_by pool.entry.words.now 0) left.old ≡ run ∷ remaining (held_by pool.entry.words.now 0) left.new) }
 {
-    listing::next(words, 0, left).unwrap()
+    let drawn = pool.draw_front(0, *left).unwrap();
+    *left = drawn.rest;
+    drawn.run
 }
 
 // Puts all runs that are left in a listing.
 fn put_runs(
     text: &mut ArrayString<TEXT>,
-    words: &[u64],
+    pool: PoolRef<'_>,
     first: Listing,
 ) -> Result<(), CapacityError>
-    requires { Openable words.now 0 }
-    ensures { Puts text.old (run_lines (remaining (held_by words.now 0) first)) text.new result }
+    requires { Openable pool.words.now 0 }
+    ensures { Puts text.old (run_lines (remaining (held_by pool.entry.words.now 0) first)) text.new result }
 {
     let mut left = first;
-    while let Some(run) = next_run(words, &mut left) {
+    while let Some(run) = next_run(pool, &mut left) {
         put_run(text, run)?;
     }
     Ok(())
 }
 
-fn put_set(text: &mut ArrayString<TEXT>, words: &[u64]) -> Result<(), CapacityError>
-    requires { Openable words.now 0 }
-    ensures { Puts text.old (set_lines (held_by words.now 0)) text.new result }
+fn put_set(text: &mut ArrayString<TEXT>, pool: PoolRef<'_>) -> Result<(), CapacityError>
+    requires { Openable pool.words.now 0 }
+    ensures { Puts text.old (set_lines (held_by pool.entry.words.now 0)) text.new result }
 {
-    let tally = held_tally(words);
+    let tally = held_tally(pool);
     put_counts(text, tally.runs, tally.count)?;
-    put_runs(text, words, all_runs(words))
+    put_runs(text, pool, all_runs(pool))
 }
 
 // ---- the whole answer to the bytes of an input
-// The pool is an array, since its capacity is fixed.
+// The pool is an array, since its capacity is fixed. It is checked once for all that is then asked of it.
 fn answer(text: &mut ArrayString<TEXT>, bytes: &[u8]) -> Result<(), CapacityError>
     ensures puts { Puts text.old (printed bytes.now) text.new result }
     ensures fits { text.old.bytes ≡ [] → IsOk result }
@@ -137,7 +141,7 @@ fn answer(text: &mut ArrayString<TEXT>, bytes: &[u8]) -> Result<(), CapacityErro
     make::new(&mut words, &[0, CAPACITY as u64]).unwrap();
     match bytes::load(&mut words, 0, bytes) {
         Err(refusal) => put_refused(text, refusal),
-        Ok(()) => put_set(text, &words),
+        Ok(()) => put_set(text, PoolRef::check(&words).unwrap()),
     }
 }
 

@@ -3,7 +3,7 @@ use Rattle.listset.proofs.Drawing.{listing-told, listing-granted}
 use Rattle.listset.proofs.all_runs.Goals as goal
 
 pub unwrap-requires : goal.unwrap-requires
-unwrap-requires c = listing-granted c.args.words.now c.requires _ c.ranges-2.ensures
+unwrap-requires c = listing-granted c.args.pool.words.now c.requires _ c.ranges-2.ensures
 
 pub returns : goal.returns
-returns c = listing-told c.args.words.now c.requires _ c.ranges-2.ensures c.unwrap.ensures
+returns c = listing-told c.args.pool.words.now c.requires _ c.ranges-2.ensures c.unwrap.ensures

@@ -11,12 +11,12 @@ use Rattle.listset.proofs.Drawing.{set-told}
 use Rattle.listset.proofs.put_set.Goals as goal
 
 pub put_counts-requires : goal.put_counts-requires
-put_counts-requires c = subst (λ k. k ≤ 2 ^ 64) (sym c.held_tally-tally.ensures.count-is) (count_most (held_by c.args.words.now 0) true 0 size)
+put_counts-requires c = subst (λ k. k ≤ 2 ^ 64) (sym c.held_tally-tally.ensures.count-is) (count_most (held_by c.args.pool.words.now 0) true 0 size)
 
 pub returns-in_err-put_counts : goal.returns-in_err-put_counts
 returns-in_err-put_counts c =
     same_text (set-told c.held_tally-tally.ensures)
-    (cut_short (run_lines (held_runs (held_by c.args.words.now 0))) c.in_err-put_counts.ensures c.from_residual.ensures.0)
+    (cut_short (run_lines (held_runs (held_by c.args.pool.words.now 0))) c.in_err-put_counts.ensures c.from_residual.ensures.0)
 
 pub returns : goal.returns
 returns c =
