@@ -75,7 +75,7 @@ fn put_refused(text: &mut ArrayString<TEXT>, refusal: Refusal) -> Result<(), Cap
     put_number(text, u128::from(u64::from(refusal)), "\n")
 }
 
-// ---- the set: what is reported of world 0 of a pool that was checked, which was opened. None of these calls is then refused
+// ---- the set: what is reported of world 0, which was opened, of a pool that was checked. None of these calls is then refused
 fn held_tally(pool: PoolRef<'_>) -> Tally
     requires { Openable pool.words.now 0 }
     ensures { Measured (held_by pool.entry.words.now 0) true 0 size result }
