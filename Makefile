@@ -46,15 +46,15 @@ $(PROGRAMS): $(SOURCES)
 	@mkdir -p target
 	@cd crates/$(@F) && rt run < stdin > ../../target/$(@F).out 2> ../../target/$(@F).log || { cat ../../target/$(@F).log; exit 1; }
 	@touch $@
-# The compiler puts in memcpy where a large value is moved, and memmove where the places may overlap. memmove does for both, so an archive asks for it alone.
-ONE_MOVE = if command -v objcopy > /dev/null; then objcopy --redefine-sym memcpy=memmove $@; else echo "without objcopy (binutils) $@ asks for memcpy too"; fi
+# An archive as it is shipped. The compiler puts in memcpy where a large value is moved, and memmove where the places may overlap. memmove does for both, so of
+# the two an archive asks for memmove alone.
+ship = if command -v objcopy > /dev/null; then objcopy --redefine-sym memcpy=memmove $(1) $@; else cp $(1) $@ && echo "without objcopy (of binutils) $@ asks for memcpy too"; fi
 # Side by side where crates do not stand on each other. The archive is written only if everything in it is proved.
 $(ARCHIVE): $(SOURCES)
 	@mkdir -p target/lib
 	@echo "proving the library: some minutes from nothing, up to a minute where its crates have been proved"
 	@python3 tools/prove.py exports
-	@cp crates/exports/out/libexports.a $@
-	@$(ONE_MOVE)
+	@$(call ship,crates/exports/out/libexports.a)
 $(HEADER): include/vizturel.h
 	@mkdir -p target/include
 	@cp $< $@
@@ -77,8 +77,7 @@ bench-store: $(BENCH_STORE)
 $(BENCH_STORE): $(SOURCES)
 	@mkdir -p target/lib
 	@(cd crates/bench_store && rt lib) > target/bench-store.log 2>&1 || { cat target/bench-store.log; exit 1; }
-	@cp crates/bench_store/out/libbench_store.a $@
-	@$(ONE_MOVE)
+	@$(call ship,crates/bench_store/out/libbench_store.a)
 bench-gaps: $(ARCHIVE) bench-store
 	cargo run --offline --profile fast --features bench_store --manifest-path host/Cargo.toml --bin bench -- gaps
 bench-maps: $(ARCHIVE)

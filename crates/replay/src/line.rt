@@ -19,7 +19,7 @@ impl From<io::Error> for Fault {
     }
 }
 
-// More than there is room for is no line's.
+// No line has more than there is room for.
 impl<T: Drop> From<CapacityError<T>> for Fault {
     fn from(_full: CapacityError<T>) -> Fault {
         Fault::NotUnderstood

@@ -35,7 +35,7 @@ impl Stores {
         )
     }
 
-    // The array is lent as a slice first: it has no proof as an array, since its elements own memory.
+    // The array is lent as a slice first, for `get_mut`.
     pub fn store_mut(&mut self, s: u64) -> Result<&mut Store, Fault> {
         let all = &mut self.all;
         let all = &mut all[..];
