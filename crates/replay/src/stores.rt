@@ -64,8 +64,6 @@ impl Stores {
 
     // ---- calls that read further worlds, which may be of the same store: they are read in copies
     // Each of these takes other words of the line and other copies: what is alike is the line that lends a store.
-    // Not inlined, so that the room for copies is cleared where they are made alone, and not for every line.
-    #[inline(never)]
     fn shifted(&mut self, to: Place, line: Tokens<'_>) -> Result<Reply, Fault> {
         let (from, distance, left): (Place, u64, bool) = line.all()?;
         let a = self.copy(from.store)?;
@@ -81,7 +79,6 @@ impl Stores {
         .reply())
     }
 
-    #[inline(never)]
     fn combine(&mut self, to: Place, line: Tokens<'_>) -> Result<Reply, Fault> {
         let (operation, p, q): (Operation, Place, Place) = line.all()?;
         let a = self.copy(p.store)?;
@@ -99,7 +96,6 @@ impl Stores {
         .reply())
     }
 
-    #[inline(never)]
     fn not(&mut self, to: Place, line: Tokens<'_>) -> Result<Reply, Fault> {
         let from: Place = line.all()?;
         let a = self.copy(from.store)?;
