@@ -77,7 +77,7 @@ bench-store: $(BENCH_STORE)
 $(BENCH_STORE): $(SOURCES)
 	@mkdir -p target/lib
 	@(cd crates/bench_store && rt lib) > target/bench-store.log 2>&1 || { cat target/bench-store.log; exit 1; }
-	@$(call ship,crates/bench_store/out/libbench_store.a)
+	@cp crates/bench_store/out/libbench_store.a $@
 bench-gaps: $(ARCHIVE) bench-store
 	cargo run --offline --profile fast --features bench_store --manifest-path host/Cargo.toml --bin bench -- gaps
 bench-maps: $(ARCHIVE)

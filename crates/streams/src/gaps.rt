@@ -28,7 +28,10 @@ pub fn lowest_gap(words: &[u64], h: World, range: Interval, n: u64) -> Option<u6
         offset: h.offset,
     };
     let mut x = range.first.0;
-    for r in Reader::open(words, v, range.first) {
+    // No `for`, which would copy the reader.
+    let mut runs = Reader::new(words, v);
+    runs.begin(range.first);
+    while let Some(r) = runs.next() {
         if r.start - x >= n {
             return Some(x);
         }

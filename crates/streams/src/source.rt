@@ -2,7 +2,7 @@
 // The path has the nodes whose own run and right side are still to come, the nearest last; so each node is visited once.
 // Under an offset o the logical positions o .. M are kept at 0 .. M - o, and those below o at the places above them: a reading from below o
 // has a first part, up to physical M, and a last part, from physical 0 on.
-ghost use Rattle.std.specs.Prelude.{◌≡◌, ℕ, List};
+ghost use Rattle.std.specs.Prelude.{◌≡◌, ℕ, List, []};
 ghost use Rattle.std.specs.Iterator.{at_most};
 ghost use Rattle.model.specs.declared.Run.{Run};
 ghost use Rattle.model.specs.Positions.{Positions};
@@ -100,21 +100,41 @@ pub struct Reader<'a> {
 }
 
 impl<'a> Reader<'a> {
-    // Begins at a logical position.
+    // One that has not begun.
+    pub fn new(words: &'a [u64], view: View) -> Reader<'a>
+        ensures words { result.words.now ≡ words.now }
+        ensures view { result.view ≡ view }
+        ensures bare { result.path.nodes.items ≡ [] }
+    {
+        Reader {
+            words,
+            view,
+            path: Path {
+                nodes: ArrayVec::new(),
+            },
+            from: None,
+        }
+    }
+
+    // Begins it at a logical position, where it lies: a reader that is handed out is copied, its path with it.
+    pub fn begin(&mut self, from: Logical)
+        requires rooted { Rooted self.old.words.now self.old.view.root }
+        requires bare { self.old.path.nodes.items ≡ [] }
+        ensures { Reads self.new «from».0 (held_from self.old.words.now self.old.view.root self.old.view.offset) }
+    {
+        let View { root, offset } = self.view;
+        self.path.descend(self.words, root, to_physical(from, offset));
+        self.from = Some(from);
+    }
+
+    // One that begins at a logical position.
     pub fn open(words: &'a [u64], view: View, from: Logical) -> Reader<'a>
         requires { Rooted words.now view.root }
         ensures { Reads result «from».0 (held_from words.now view.root view.offset) }
     {
-        let mut path = Path {
-            nodes: ArrayVec::new(),
-        };
-        path.descend(words, view.root, to_physical(from, view.offset));
-        Reader {
-            words,
-            view,
-            path,
-            from: Some(from),
-        }
+        let mut reader = Reader::new(words, view);
+        reader.begin(from);
+        reader
     }
 
     // The next run, from the position on where the reader stands.

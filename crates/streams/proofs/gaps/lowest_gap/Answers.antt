@@ -9,8 +9,11 @@ use Rattle.streams.proofs.gaps.lowest_gap.Goals as goal
 pub returns-then-range-n : goal.returns-then-range-n
 returns-then-range-n c = sym (gap-short _ _ _ _ c.args.range.ordered c.if-range-n.true)
 
-pub open-r-items-requires : goal.open-r-items-requires
-open-r-items-requires c = standing-rooted c.requires.stands.1
+pub begin-requires : goal.begin-requires
+begin-requires c = record {
+  rooted = rw (c.new-runs.ensures.words, c.new-runs.ensures.view) (standing-rooted c.requires.stands.1);
+  bare = c.new-runs.ensures.bare;
+}
 
 pub overflow_sub-r : goal.overflow_sub-r
 overflow_sub-r c = omega (arith, (sought-run c.loop-r.invariant c.in-Some.ensures.steps).onward)
@@ -27,4 +30,4 @@ loop-r-preserved c =
     sought-on c.loop-r.invariant c.in-Some.ensures.steps c.requires.some c.if-r-x.false (omega (arith, c.if-saturating_sub-n.false, c.saturating_sub.ensures))
 
 pub returns : goal.returns
-returns c = sym (sought-clear c.loop-r.invariant c.in-None.ensures.steps (omega (arith, c.well_formed)))
+returns c = sym (sought-clear c.loop-r.invariant c.in_default.ensures.steps (omega (arith, c.well_formed)))
