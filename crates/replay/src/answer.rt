@@ -4,9 +4,9 @@ use arrayvec::ArrayVec;
 use model::{Count, Drawn, Listing, Mended, Refusal, Run, Tally};
 use std::{fmt, io};
 
-// The answer to a call that is not refused. A slice that was lent is told whole, after how many of its elements were written.
-#[derive(Drop)]
-pub enum Answer {
+// The answer to a call that is not refused, as it is told. A slice that was lent is told whole, after how many of its elements were written.
+#[derive(Clone, Copy)]
+pub enum Answer<'a> {
     Done,
     Number(u64),
     Count(Count),
@@ -16,65 +16,68 @@ pub enum Answer {
     Found(Option<u64>),
     Listing(Listing),
     Drawn(Drawn),
-    Cleared(u64, ArrayVec<u8, 1024>),
-    Written(usize, ArrayVec<u8, 1029>),
-    Mended(usize, ArrayVec<u8, 1029>, usize, ArrayVec<u8, 1029>),
-    Worded(usize, ArrayVec<u64, 128>),
+    Cleared(u64, &'a [u8]),
+    Written(usize, &'a [u8]),
+    Mended(Mended, &'a [u8], &'a [u8]),
+    Worded(usize, &'a [u64]),
 }
 
-pub type Reply = Result<Answer, Refusal>;
+// What a call gives, which is told where it lies: what has slices is large.
+pub trait Told {
+    fn answer(&self) -> Answer<'_>;
+}
 
-impl From<()> for Answer {
-    fn from(_done: ()) -> Answer {
+impl Told for () {
+    fn answer(&self) -> Answer<'_> {
         Answer::Done
     }
 }
 
-impl From<u64> for Answer {
-    fn from(n: u64) -> Answer {
-        Answer::Number(n)
+impl Told for u64 {
+    fn answer(&self) -> Answer<'_> {
+        Answer::Number(*self)
     }
 }
 
-impl From<Count> for Answer {
-    fn from(n: Count) -> Answer {
-        Answer::Count(n)
+impl Told for Count {
+    fn answer(&self) -> Answer<'_> {
+        Answer::Count(*self)
     }
 }
 
-impl From<Tally> for Answer {
-    fn from(t: Tally) -> Answer {
-        Answer::Tally(t)
+impl Told for Tally {
+    fn answer(&self) -> Answer<'_> {
+        Answer::Tally(*self)
     }
 }
 
-impl From<bool> for Answer {
-    fn from(v: bool) -> Answer {
-        Answer::Value(v)
+impl Told for bool {
+    fn answer(&self) -> Answer<'_> {
+        Answer::Value(*self)
     }
 }
 
-impl From<Run> for Answer {
-    fn from(r: Run) -> Answer {
-        Answer::Run(r)
+impl Told for Run {
+    fn answer(&self) -> Answer<'_> {
+        Answer::Run(*self)
     }
 }
 
-impl From<Option<u64>> for Answer {
-    fn from(x: Option<u64>) -> Answer {
-        Answer::Found(x)
+impl Told for Option<u64> {
+    fn answer(&self) -> Answer<'_> {
+        Answer::Found(*self)
     }
 }
 
-impl From<Listing> for Answer {
-    fn from(l: Listing) -> Answer {
-        Answer::Listing(l)
+impl Told for Listing {
+    fn answer(&self) -> Answer<'_> {
+        Answer::Listing(*self)
     }
 }
 
-impl From<Drawn> for Answer {
-    fn from(d: Drawn) -> Answer {
-        Answer::Drawn(d)
+impl Told for Drawn {
+    fn answer(&self) -> Answer<'_> {
+        Answer::Drawn(*self)
     }
 }
 
@@ -85,29 +88,15 @@ pub struct Wrote<T, const N: usize> {
     whole: ArrayVec<T, N>,
 }
 
-impl From<Wrote<u8, 1029>> for Answer {
-    fn from(f: Wrote<u8, 1029>) -> Answer {
-        Answer::Written(f.written, f.whole)
+impl<const N: usize> Told for Wrote<u8, N> {
+    fn answer(&self) -> Answer<'_> {
+        Answer::Written(self.written, self.whole.as_slice())
     }
 }
 
-impl From<Wrote<u64, 128>> for Answer {
-    fn from(f: Wrote<u64, 128>) -> Answer {
-        Answer::Worded(f.written, f.whole)
-    }
-}
-
-// What a call of the library gives.
-pub trait Outcome {
-    fn reply(self) -> Reply;
-}
-
-impl<T: Into<Answer>> Outcome for Result<T, Refusal> {
-    fn reply(self) -> Reply {
-        match self {
-            Ok(given) => Ok(given.into()),
-            Err(r) => Err(r),
-        }
+impl<const N: usize> Told for Wrote<u64, N> {
+    fn answer(&self) -> Answer<'_> {
+        Answer::Worded(self.written, self.whole.as_slice())
     }
 }
 
@@ -123,20 +112,31 @@ pub fn filled<T: Drop, const N: usize, F: FnOnce(&mut [T]) -> Result<usize, Refu
     Ok(Wrote { written, whole })
 }
 
-// A map whose spare bits were cleared.
-// Not by `filled`: a map is changed where it stands and told with a number of bits, and of `mended` there are two slices.
-pub fn cleared(n: Result<u64, Refusal>, map: ArrayVec<u8, 1024>) -> Reply {
-    Ok(Answer::Cleared(n?, map))
+// A map whose spare bits were cleared: it is changed where it stands and told with a number of bits.
+#[derive(Drop)]
+pub struct Cleared {
+    pub bits: u64,
+    pub map: ArrayVec<u8, 1024>,
+}
+
+impl Told for Cleared {
+    fn answer(&self) -> Answer<'_> {
+        Answer::Cleared(self.bits, self.map.as_slice())
+    }
 }
 
 // Both slices of a mended set.
-pub fn mended(
-    m: Result<Mended, Refusal>,
-    out: ArrayVec<u8, 1029>,
-    report: ArrayVec<u8, 1029>,
-) -> Reply {
-    let m = m?;
-    Ok(Answer::Mended(m.bytes, out, m.report, report))
+#[derive(Drop)]
+pub struct Both {
+    pub made: Mended,
+    pub out: ArrayVec<u8, 1029>,
+    pub report: ArrayVec<u8, 1029>,
+}
+
+impl Told for Both {
+    fn answer(&self) -> Answer<'_> {
+        Answer::Mended(self.made, self.out.as_slice(), self.report.as_slice())
+    }
 }
 
 // ---- text
@@ -196,7 +196,7 @@ impl fmt::Display for Words<'_> {
     }
 }
 
-impl fmt::Display for Answer {
+impl fmt::Display for Answer<'_> {
     fn fmt<W: fmt::Write>(&self, f: &mut fmt::Formatter<W>) -> fmt::Result {
         match self {
             Answer::Done => write!(f, "done"),
@@ -212,24 +212,26 @@ impl fmt::Display for Answer {
                 Some(r) => write!(f, "drawn {} {} {}", r.start, r.end, Left(d.rest)),
                 None => write!(f, "end {}", Left(d.rest)),
             },
-            Answer::Cleared(n, map) => write!(f, "cleared {n} {}", Hex(map.as_slice())),
-            Answer::Written(n, out) => write!(f, "written {n} {}", Hex(out.as_slice())),
-            Answer::Mended(n, out, m, report) => write!(
+            Answer::Cleared(n, map) => write!(f, "cleared {n} {}", Hex(map)),
+            Answer::Written(n, out) => write!(f, "written {n} {}", Hex(out)),
+            Answer::Mended(m, out, report) => write!(
                 f,
-                "written {n} {} {m} {}",
-                Hex(out.as_slice()),
-                Hex(report.as_slice())
+                "written {} {} {} {}",
+                m.bytes,
+                Hex(out),
+                m.report,
+                Hex(report)
             ),
-            Answer::Worded(n, out) => write!(f, "worded {n}{}", Words(out.as_slice())),
+            Answer::Worded(n, out) => write!(f, "worded {n}{}", Words(out)),
         }
     }
 }
 
 // ---- lines
 // The answer to a line, or the number of its refusal.
-pub fn tell(rt: &impl Print, reply: &Reply) -> io::Result<()> {
+pub fn tell<T: Told>(rt: &impl Print, reply: &Result<T, Refusal>) -> io::Result<()> {
     match reply {
-        Ok(answer) => println!(rt; "{answer}"),
+        Ok(given) => println!(rt; "{}", given.answer()),
         Err(r) => println!(rt; "refused {}", u64::from(*r)),
     }
 }

@@ -1,6 +1,6 @@
 // Frames: the lines of one are gathered until its last record is there.
 use crate::answer;
-use crate::answer::{Outcome, Words};
+use crate::answer::Words;
 use crate::line::{Fault, Tokens};
 use arrayvec::ArrayVec;
 use std::io;
@@ -53,7 +53,7 @@ impl Frame {
     // Makes its calls, and answers its lines. None of its records is answered where it is refused.
     pub fn serve(&mut self, rt: &impl Print, store: &mut [u64]) -> io::Result<()> {
         let answers = self.answers.as_mut_slice();
-        let reply = frame::frame(store, self.records.as_slice(), answers).reply();
+        let reply = frame::frame(store, self.records.as_slice(), answers);
         answer::tell(rt, &reply)?;
         if reply.is_err() {
             return answer::repeat(rt, "-", self.calls);

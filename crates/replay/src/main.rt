@@ -41,16 +41,20 @@ impl Replay {
         frame.record(Tokens::new(line))
     }
 
+    // Takes a frame's own line. By itself, as a function clears the place of a frame on every way through it.
+    fn begin_frame(&mut self, line: Tokens<'_>) -> Result<(), Fault> {
+        self.frame = Some(Frame::begin(line)?);
+        Ok(())
+    }
+
     // Makes the call of a line and prints its answer. That of a frame comes when its last record is there.
     fn call(&mut self, rt: &impl Print, line: &str) -> Result<(), Fault> {
         let mut tokens = Tokens::new(line);
         let name = tokens.word()?;
         if name == "frame" {
-            self.frame = Some(Frame::begin(tokens)?);
-            return Ok(());
+            return self.begin_frame(tokens);
         }
-        answer::tell(rt, &self.stores.call_named(name, tokens)?)?;
-        Ok(())
+        self.stores.call_named(rt, name, tokens)
     }
 
     // Gives up the frame at hand, whose records did not follow: none of its lines is understood.

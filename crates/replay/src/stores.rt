@@ -1,5 +1,4 @@
 // The four stores, each with no words at first, and the calls on whole ones or on several.
-use crate::answer::{Answer, Outcome, Reply};
 use crate::line::{Argument, Fault, Lent, Pairs, Place, Tokens};
 use crate::{answer, calls};
 use arrayvec::ArrayVec;
@@ -47,123 +46,149 @@ impl Stores {
         Ok(self.store_mut(u64::read(line)?)?.as_mut_slice())
     }
 
-    // A copy of a store, which can be read while another is written, or the same.
-    fn copy(&self, s: u64) -> Result<Store, Fault> {
-        Ok(ArrayVec::try_from(self.store(s)?)?)
+    // Copies a store into an empty one, which can be read while another is written, or the same. A store that is handed out is copied once more.
+    fn copy(&self, s: u64, to: &mut Store) -> Result<(), Fault> {
+        to.try_extend_from_slice(self.store(s)?)?;
+        Ok(())
     }
 
     // Lends a store words, each 0.
-    fn lend(&mut self, s: u64, mut line: Tokens<'_>) -> Result<Reply, Fault> {
+    fn lend(&mut self, rt: &impl Print, s: u64, mut line: Tokens<'_>) -> Result<(), Fault> {
         let capacity = line.at_most(64)?;
         line.end()?;
-        let mut words = ArrayVec::from([0u64; 904]);
-        words.truncate(8 * (capacity as usize + 49));
-        *self.store_mut(s)? = words;
-        Ok(Ok(Answer::Done))
+        let store = self.store_mut(s)?;
+        *store = ArrayVec::from([0u64; 904]);
+        store.truncate(8 * (capacity as usize + 49));
+        done(rt)
     }
 
     // ---- calls that read further worlds, which may be of the same store: they are read in copies
     // Each of these takes other words of the line and other copies: what is alike is the line that lends a store.
-    fn shifted(&mut self, to: Place, line: Tokens<'_>) -> Result<Reply, Fault> {
+    fn shifted(&mut self, rt: &impl Print, to: Place, line: Tokens<'_>) -> Result<(), Fault> {
         let (from, distance, left): (Place, u64, bool) = line.all()?;
-        let a = self.copy(from.store)?;
-        let store = self.store_mut(to.store)?;
-        Ok(join::shifted(
-            store.as_mut_slice(),
-            to.world,
-            distance,
-            left,
-            a.as_slice(),
-            from.world,
-        )
-        .reply())
+        let mut a = ArrayVec::new();
+        self.copy(from.store, &mut a)?;
+        let store = self.store_mut(to.store)?.as_mut_slice();
+        let done = join::shifted(store, to.world, distance, left, a.as_slice(), from.world);
+        answer::tell(rt, &done)?;
+        Ok(())
     }
 
-    fn combine(&mut self, to: Place, line: Tokens<'_>) -> Result<Reply, Fault> {
+    fn combine(&mut self, rt: &impl Print, to: Place, line: Tokens<'_>) -> Result<(), Fault> {
         let (operation, p, q): (Operation, Place, Place) = line.all()?;
-        let a = self.copy(p.store)?;
-        let b = self.copy(q.store)?;
-        let store = self.store_mut(to.store)?;
-        Ok(join::combine(
-            store.as_mut_slice(),
+        let mut a = ArrayVec::new();
+        self.copy(p.store, &mut a)?;
+        let mut b = ArrayVec::new();
+        self.copy(q.store, &mut b)?;
+        let store = self.store_mut(to.store)?.as_mut_slice();
+        let done = join::combine(
+            store,
             to.world,
             operation,
             a.as_slice(),
             p.world,
             b.as_slice(),
             q.world,
-        )
-        .reply())
+        );
+        answer::tell(rt, &done)?;
+        Ok(())
     }
 
-    fn not(&mut self, to: Place, line: Tokens<'_>) -> Result<Reply, Fault> {
+    fn not(&mut self, rt: &impl Print, to: Place, line: Tokens<'_>) -> Result<(), Fault> {
         let from: Place = line.all()?;
-        let a = self.copy(from.store)?;
-        let store = self.store_mut(to.store)?;
-        Ok(join::not(store.as_mut_slice(), to.world, a.as_slice(), from.world).reply())
+        let mut a = ArrayVec::new();
+        self.copy(from.store, &mut a)?;
+        let store = self.store_mut(to.store)?.as_mut_slice();
+        let done = join::not(store, to.world, a.as_slice(), from.world);
+        answer::tell(rt, &done)?;
+        Ok(())
     }
 
-    fn eq(&self, p: Place, line: Tokens<'_>) -> Result<Reply, Fault> {
+    fn eq(&self, rt: &impl Print, p: Place, line: Tokens<'_>) -> Result<(), Fault> {
         let q: Place = line.all()?;
-        Ok(join::eq(self.store(p.store)?, p.world, self.store(q.store)?, q.world).reply())
+        let same = join::eq(self.store(p.store)?, p.world, self.store(q.store)?, q.world);
+        answer::tell(rt, &same)?;
+        Ok(())
     }
 
     // ---- names, by a match and no table: what each takes is of types of its own
     // The call at a world that a name means.
-    fn world_named(&mut self, p: Place, name: &str, line: Tokens<'_>) -> Result<Reply, Fault> {
+    fn world_named(
+        &mut self,
+        rt: &impl Print,
+        p: Place,
+        name: &str,
+        line: Tokens<'_>,
+    ) -> Result<(), Fault> {
         match name {
-            "shifted" => self.shifted(p, line),
-            "combine" => self.combine(p, line),
-            "not" => self.not(p, line),
-            "eq" => self.eq(p, line),
-            _ => calls::call_named(self.store_mut(p.store)?.as_mut_slice(), p.world, name, line),
+            "shifted" => self.shifted(rt, p, line),
+            "combine" => self.combine(rt, p, line),
+            "not" => self.not(rt, p, line),
+            "eq" => self.eq(rt, p, line),
+            _ => {
+                let store = self.store_mut(p.store)?.as_mut_slice();
+                calls::call_named(rt, store, p.world, name, line)
+            }
         }
     }
 
-    // The call that a name means, but for frames: a name, a store or a world but for clear_map and convert, and what the call takes.
-    pub fn call_named(&mut self, name: &str, mut line: Tokens<'_>) -> Result<Reply, Fault> {
+    // Makes the call that a name means, but for frames, and prints its answer: a name, a store or a world but for clear_map and convert, and what
+    // the call takes.
+    pub fn call_named(
+        &mut self,
+        rt: &impl Print,
+        name: &str,
+        mut line: Tokens<'_>,
+    ) -> Result<(), Fault> {
         match name {
-            "clear_map" => calls::clear_map(line),
-            "convert" => calls::convert(line),
+            "clear_map" => calls::clear_map(rt, line),
+            "convert" => calls::convert(rt, line),
             "words" => {
                 let s = u64::read(&mut line)?;
-                self.lend(s, line)
+                self.lend(rt, s, line)
             }
-            "spoil" => spoil(self.whole(&mut line)?, line),
-            "new" => new(self.whole(&mut line)?, line),
-            "deepest" => deepest(self.whole(&mut line)?, line),
-            "why_full" => why_full(self.whole(&mut line)?, line),
+            "spoil" => spoil(rt, self.whole(&mut line)?, line),
+            "new" => new(rt, self.whole(&mut line)?, line),
+            "deepest" => deepest(rt, self.whole(&mut line)?, line),
+            "why_full" => why_full(rt, self.whole(&mut line)?, line),
             _ => {
                 let p = Place::read(&mut line)?;
-                self.world_named(p, name, line)
+                self.world_named(rt, p, name, line)
             }
         }
     }
 }
 
 // ---- calls on a whole store, of which two only measure it
-// Not a call of the library: makes a store unsound, which has to have words.
-fn spoil(store: &mut [u64], line: Tokens<'_>) -> Result<Reply, Fault> {
-    line.end()?;
-    *store.get_mut(7).ok_or(Fault::NotUnderstood)? = 1;
-    Ok(Ok(Answer::Done))
+// Answers a line that is no call of the library.
+fn done(rt: &impl Print) -> Result<(), Fault> {
+    answer::tell(rt, &Ok(()))?;
+    Ok(())
 }
 
-fn new(store: &mut [u64], line: Tokens<'_>) -> Result<Reply, Fault> {
+// Not a call of the library: makes a store unsound, which has to have words.
+fn spoil(rt: &impl Print, store: &mut [u64], line: Tokens<'_>) -> Result<(), Fault> {
+    line.end()?;
+    *store.get_mut(7).ok_or(Fault::NotUnderstood)? = 1;
+    done(rt)
+}
+
+fn new(rt: &impl Print, store: &mut [u64], line: Tokens<'_>) -> Result<(), Fault> {
     calls::make(
+        rt,
         line,
         |limits: Pairs<64>| make::new(store, limits.0.as_slice()),
     )
 }
 
-fn deepest(store: &[u64], line: Tokens<'_>) -> Result<Reply, Fault> {
-    calls::make(line, |(height, out): (u64, Lent<u64, 128>)| {
+fn deepest(rt: &impl Print, store: &[u64], line: Tokens<'_>) -> Result<(), Fault> {
+    calls::make(rt, line, |(height, out): (u64, Lent<u64, 128>)| {
         answer::filled(out, |out| measure::deepest(store, height, out))
     })
 }
 
-fn why_full(store: &[u64], line: Tokens<'_>) -> Result<Reply, Fault> {
-    calls::make(line, |(out, bounds): (Lent<u64, 128>, Pairs<128>)| {
+fn why_full(rt: &impl Print, store: &[u64], line: Tokens<'_>) -> Result<(), Fault> {
+    calls::make(rt, line, |(out, bounds): (Lent<u64, 128>, Pairs<128>)| {
         answer::filled(
             out,
             |out| measure::why_full(store, bounds.0.as_slice(), out),
