@@ -123,7 +123,8 @@ impl<'a> Reader<'a> {
         ensures { Reads self.new «from».0 (held_from self.old.words.now self.old.view.root self.old.view.offset) }
     {
         let View { root, offset } = self.view;
-        self.path.descend(self.words, root, to_physical(from, offset));
+        self.path
+            .descend(self.words, root, to_physical(from, offset));
         self.from = Some(from);
     }
 
