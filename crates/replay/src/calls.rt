@@ -17,8 +17,7 @@ pub fn make<T: Argument + Drop, A: Told + Drop, F: FnOnce(T) -> Result<A, Refusa
 ) -> Result<(), Fault>
     requires { F.IsAlwaysCallable call }
 {
-    answer::tell(rt, &call(line.all()?))?;
-    Ok(())
+    Ok(answer::tell(rt, &call(line.all()?))?)
 }
 
 // ---- no store
@@ -42,10 +41,14 @@ fn mend(
     world: u64,
     set: &[u8],
     mut out: ArrayVec<u8, 1029>,
-    mut report: ArrayVec<u8, 1029>,
+    mut notes: ArrayVec<u8, 1029>,
 ) -> Result<Both, Refusal> {
-    let made = mend::mend(store, world, set, out.as_mut_slice(), report.as_mut_slice())?;
-    Ok(Both { made, out, report })
+    let made = mend::mend(store, world, set, out.as_mut_slice(), notes.as_mut_slice())?;
+    Ok(Both {
+        made,
+        out,
+        report: notes,
+    })
 }
 
 // The call that a name means at a world.

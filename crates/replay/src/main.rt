@@ -41,7 +41,7 @@ impl Replay {
         frame.record(Tokens::new(line))
     }
 
-    // Takes a frame's own line. By itself, as a function clears the place of a frame on every way through it.
+    // Takes a frame's own line. A function of its own: one that makes a frame clears room for it whenever it is called.
     fn begin_frame(&mut self, line: Tokens<'_>) -> Result<(), Fault> {
         self.frame = Some(Frame::begin(line)?);
         Ok(())

@@ -46,7 +46,8 @@ impl Stores {
         Ok(self.store_mut(u64::read(line)?)?.as_mut_slice())
     }
 
-    // Copies a store into an empty one, which can be read while another is written, or the same. A store that is handed out is copied once more.
+    // Copies a store into an empty one, which can be read while another is written, or the same. The place is lent: a store that is returned is copied
+    // once more.
     fn copy(&self, s: u64, to: &mut Store) -> Result<(), Fault> {
         to.try_extend_from_slice(self.store(s)?)?;
         Ok(())
@@ -59,7 +60,7 @@ impl Stores {
         let store = self.store_mut(s)?;
         *store = ArrayVec::from([0u64; 904]);
         store.truncate(8 * (capacity as usize + 49));
-        done(rt)
+        Ok(answer::tell(rt, &Ok(()))?)
     }
 
     // ---- calls that read further worlds, which may be of the same store: they are read in copies
@@ -70,8 +71,7 @@ impl Stores {
         self.copy(from.store, &mut a)?;
         let store = self.store_mut(to.store)?.as_mut_slice();
         let done = join::shifted(store, to.world, distance, left, a.as_slice(), from.world);
-        answer::tell(rt, &done)?;
-        Ok(())
+        Ok(answer::tell(rt, &done)?)
     }
 
     fn combine(&mut self, rt: &impl Print, to: Place, line: Tokens<'_>) -> Result<(), Fault> {
@@ -90,8 +90,7 @@ impl Stores {
             b.as_slice(),
             q.world,
         );
-        answer::tell(rt, &done)?;
-        Ok(())
+        Ok(answer::tell(rt, &done)?)
     }
 
     fn not(&mut self, rt: &impl Print, to: Place, line: Tokens<'_>) -> Result<(), Fault> {
@@ -100,15 +99,13 @@ impl Stores {
         self.copy(from.store, &mut a)?;
         let store = self.store_mut(to.store)?.as_mut_slice();
         let done = join::not(store, to.world, a.as_slice(), from.world);
-        answer::tell(rt, &done)?;
-        Ok(())
+        Ok(answer::tell(rt, &done)?)
     }
 
     fn eq(&self, rt: &impl Print, p: Place, line: Tokens<'_>) -> Result<(), Fault> {
         let q: Place = line.all()?;
         let same = join::eq(self.store(p.store)?, p.world, self.store(q.store)?, q.world);
-        answer::tell(rt, &same)?;
-        Ok(())
+        Ok(answer::tell(rt, &same)?)
     }
 
     // ---- names, by a match and no table: what each takes is of types of its own
@@ -160,17 +157,11 @@ impl Stores {
 }
 
 // ---- calls on a whole store, of which two only measure it
-// Answers a line that is no call of the library.
-fn done(rt: &impl Print) -> Result<(), Fault> {
-    answer::tell(rt, &Ok(()))?;
-    Ok(())
-}
-
 // Not a call of the library: makes a store unsound, which has to have words.
 fn spoil(rt: &impl Print, store: &mut [u64], line: Tokens<'_>) -> Result<(), Fault> {
     line.end()?;
     *store.get_mut(7).ok_or(Fault::NotUnderstood)? = 1;
-    done(rt)
+    Ok(answer::tell(rt, &Ok(()))?)
 }
 
 fn new(rt: &impl Print, store: &mut [u64], line: Tokens<'_>) -> Result<(), Fault> {

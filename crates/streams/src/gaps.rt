@@ -28,7 +28,7 @@ pub fn lowest_gap(words: &[u64], h: World, range: Interval, n: u64) -> Option<u6
         offset: h.offset,
     };
     let mut x = range.first.0;
-    // No `for`, which would copy the reader.
+    // No `open` and no `for`: each would copy the reader, and its path.
     let mut runs = Reader::new(words, v);
     runs.begin(range.first);
     while let Some(r) = runs.next() {

@@ -2,7 +2,7 @@
 // The path has the nodes whose own run and right side are still to come, the nearest last; so each node is visited once.
 // Under an offset o the logical positions o .. M are kept at 0 .. M - o, and those below o at the places above them: a reading from below o
 // has a first part, up to physical M, and a last part, from physical 0 on.
-ghost use Rattle.std.specs.Prelude.{◌≡◌, ℕ, List, []};
+ghost use Rattle.std.specs.Prelude.{◌≡◌, ℕ, List, [], None};
 ghost use Rattle.std.specs.Iterator.{at_most};
 ghost use Rattle.model.specs.declared.Run.{Run};
 ghost use Rattle.model.specs.Positions.{Positions};
@@ -105,6 +105,7 @@ impl<'a> Reader<'a> {
         ensures words { result.words.now ≡ words.now }
         ensures view { result.view ≡ view }
         ensures bare { result.path.nodes.items ≡ [] }
+        ensures unbegun { result.from ≡ None }
     {
         Reader {
             words,
