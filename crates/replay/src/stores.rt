@@ -64,9 +64,14 @@ impl Stores {
     }
 
     // ---- calls that read further worlds, which may be of the same store: they are read in copies
-    // Each of these takes other words of the line and other copies: what is alike is the line that lends a store.
-    fn shifted(&mut self, rt: &impl Print, to: Place, line: Tokens<'_>) -> Result<(), Fault> {
-        let (from, distance, left): (Place, u64, bool) = line.all()?;
+    // They take what a line tells, and not the line: a function clears room for its copies whenever it is called.
+    // Each takes other arguments and other copies: what is alike is the line that lends a store.
+    fn shifted(
+        &mut self,
+        rt: &impl Print,
+        to: Place,
+        (from, distance, left): (Place, u64, bool),
+    ) -> Result<(), Fault> {
         let mut a = ArrayVec::new();
         self.copy(from.store, &mut a)?;
         let store = self.store_mut(to.store)?.as_mut_slice();
@@ -74,8 +79,12 @@ impl Stores {
         Ok(answer::tell(rt, &done)?)
     }
 
-    fn combine(&mut self, rt: &impl Print, to: Place, line: Tokens<'_>) -> Result<(), Fault> {
-        let (operation, p, q): (Operation, Place, Place) = line.all()?;
+    fn combine(
+        &mut self,
+        rt: &impl Print,
+        to: Place,
+        (operation, p, q): (Operation, Place, Place),
+    ) -> Result<(), Fault> {
         let mut a = ArrayVec::new();
         self.copy(p.store, &mut a)?;
         let mut b = ArrayVec::new();
@@ -93,8 +102,7 @@ impl Stores {
         Ok(answer::tell(rt, &done)?)
     }
 
-    fn not(&mut self, rt: &impl Print, to: Place, line: Tokens<'_>) -> Result<(), Fault> {
-        let from: Place = line.all()?;
+    fn not(&mut self, rt: &impl Print, to: Place, from: Place) -> Result<(), Fault> {
         let mut a = ArrayVec::new();
         self.copy(from.store, &mut a)?;
         let store = self.store_mut(to.store)?.as_mut_slice();
@@ -102,8 +110,7 @@ impl Stores {
         Ok(answer::tell(rt, &done)?)
     }
 
-    fn eq(&self, rt: &impl Print, p: Place, line: Tokens<'_>) -> Result<(), Fault> {
-        let q: Place = line.all()?;
+    fn eq(&self, rt: &impl Print, p: Place, q: Place) -> Result<(), Fault> {
         let same = join::eq(self.store(p.store)?, p.world, self.store(q.store)?, q.world);
         Ok(answer::tell(rt, &same)?)
     }
@@ -118,10 +125,10 @@ impl Stores {
         line: Tokens<'_>,
     ) -> Result<(), Fault> {
         match name {
-            "shifted" => self.shifted(rt, p, line),
-            "combine" => self.combine(rt, p, line),
-            "not" => self.not(rt, p, line),
-            "eq" => self.eq(rt, p, line),
+            "shifted" => self.shifted(rt, p, line.all()?),
+            "combine" => self.combine(rt, p, line.all()?),
+            "not" => self.not(rt, p, line.all()?),
+            "eq" => self.eq(rt, p, line.all()?),
             _ => {
                 let store = self.store_mut(p.store)?.as_mut_slice();
                 calls::call_named(rt, store, p.world, name, line)
