@@ -46,8 +46,8 @@ impl Stores {
         Ok(self.store_mut(u64::read(line)?)?.as_mut_slice())
     }
 
-    // Copies a store into an empty one, which can be read while another is written, or the same. The place is lent: a store that is returned is copied
-    // once more.
+    // Copies a store into an empty one, which can be read while another is written, or the same. The caller lends the
+    // place, since a store that is returned would be copied once more.
     fn copy(&self, s: u64, to: &mut Store) -> Result<(), Fault> {
         to.try_extend_from_slice(self.store(s)?)?;
         Ok(())
@@ -65,7 +65,7 @@ impl Stores {
 
     // ---- calls that read further worlds, which may be of the same store: they are read in copies
     // They take what a line tells, and not the line: a function clears room for its copies whenever it is called.
-    // Each takes other arguments and other copies: what is alike is the line that lends a store.
+    // Each takes other arguments and other copies: what is alike is the lines that lend a store and tell the answer.
     fn shifted(
         &mut self,
         rt: &impl Print,
