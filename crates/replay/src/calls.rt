@@ -1,7 +1,7 @@
 // The calls at a world of a store, and those that take no store. Each is made only if the line has all that it takes and no more. A call that
 // is added is a line here.
 // A match on names and no table: each call takes arguments of types of its own, so no one type of function would be that of a table.
-// Store, world, name and line stay apart: the closures take the first two and `make` the line, so a struct would be taken apart in each arm.
+// The handle, store, world, name and line stay apart: the closures take store and world, and `make` handle and line, so a struct would be taken apart in each arm.
 use crate::answer;
 use crate::answer::{Both, Cleared, Told};
 use crate::line::{Argument, Bytes, Fault, Lent, Pairs, Tokens};
